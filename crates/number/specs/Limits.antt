@@ -1,0 +1,21 @@
+-- The limits of document 01's file format, by the names that the number types' constants have.
+-- Assumes nothing.
+use Prim.Native.Nat.{ℕ, _*_}
+
+-- propositions and terms of a table
+abbrev pub most-propositions : ℕ
+most-propositions = 1024
+
+abbrev pub most-terms : ℕ
+most-terms = 512
+
+-- the height of a proposition, the depth of a term
+abbrev pub most-height : ℕ
+most-height = 32
+
+abbrev pub most-depth : ℕ
+most-depth = 64
+
+-- a field that holds no number
+abbrev pub none : ℕ
+none = 65535

@@ -1,0 +1,52 @@
+-- What tests 2 and 3 say of a header. Assumes nothing.
+use mathlib.Core.Path.{_≡_, ap, _∙_}
+use mathlib.Core.Bool.{Bool, true, false, _&&_}
+use mathlib.Core.List.{List}
+use Prim.Native.Nat.{ℕ, _+_, _*_, _<_, _≤_}
+use borrow.Author.Tests.{leb-true, eqb-true}
+use native.Mathlib.Omega.{arith}
+use lib.ListN.{length}
+use lib.Dec.{leb, eqb}
+use Rattle.number.specs.Limits.{most-propositions, most-terms}
+use Rattle.number.specs.Records.{wordAt}
+use Rattle.table.specs.File.{props, terms}
+use Rattle.table.specs.Tests.{mark, blank, header, counts, AtMost}
+use Rattle.table.specs.Passing.{Counted}
+use Rattle.table.specs.declared.Guilty.{Guilty}
+use Rattle.table.specs.declared.Guilty.the-variants.{At, Nobody}
+use Rattle.table.specs.Reading.{first}
+use Rattle.table.proofs.Firsts.{first-at}
+
+pub header-long : (l : List ℕ) → leb 16 (length l) ≡ true → header l ≡ (mark l && (eqb (wordAt l 4) 1 && blank l))
+unfolding header
+header-long l h = rw h
+
+-- both parts of a test that holds
+pub and-left : (a b : Bool) → (a && b) ≡ true → a ≡ true
+and-left true b h = mathlib.Core.Path.refl
+and-left false b h = h
+
+pub and-right : (a b : Bool) → (a && b) ≡ true → b ≡ true
+and-right true b h = h
+and-right false b h = absurd (let z : _≡_ {A = ℕ} 0 1 = cc in omega arith)
+
+pub header-length : (l : List ℕ) → header l ≡ true → 16 ≤ length l
+unfolding header
+header-length l h = leb-true 16 (length l) (and-left _ _ h)
+
+pub counted : (l : List ℕ) → counts l ≡ true → Counted l
+unfolding counts
+counted l h =
+    let a = and-left _ _ h in
+    let b = and-right _ _ a in
+    record {
+      propositions = leb-true (props l) most-propositions (and-left _ _ a);
+      some = leb-true 1 (terms l) (and-left _ _ b);
+      few = leb-true (terms l) most-terms (and-right _ _ b);
+      long = eqb-true (length l) (16 + (16 * props l + 16 * terms l)) (and-right _ _ h);
+    }
+
+-- a search among n numbers finds one within n
+pub first-most : (t : ℕ → Bool) (n k : ℕ) (g : Guilty) → g ≡ first t n → n ≤ k → AtMost k g
+first-most t n k (At i) e h = omega (arith, first-at t n i (mathlib.Core.Path.sym e) .0)
+first-most t n k Nobody e h = tt

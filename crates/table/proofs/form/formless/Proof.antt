@@ -1,0 +1,44 @@
+use native.Mathlib.Omega.{arith}
+use Rattle.table.specs.Tests.{formless}
+use Rattle.table.proofs.Headers.{first-most}
+use borrow.Author.Needs.{needs}
+use Rattle.table.proofs.form.formless.Statement.{statement}
+use Rattle.table.proofs.form.formless.Tie as tie
+use Rattle.table.proofs.form.formless.Reads as reads
+use Rattle.table.proofs.form.formless.Lts as lts
+use Rattle.table.proofs.form.formless_proposition.Reads as formless-proposition-reads
+use Rattle.table.proofs.form.formless_term.Reads as formless-term-reads
+use Rattle.table.proofs.form.or_term.Reads as or-term-reads
+use Rattle.table.proofs.header.proposition_count.Reads as proposition-count-reads
+use Rattle.table.proofs.header.term_count.Reads as term-count-reads
+
+proposition-count-requires : tie.Need-proposition-count-requires
+proposition-count-requires c κs = search needs
+
+formless-proposition-requires : tie.Need-formless-proposition-requires
+formless-proposition-requires c κs = search needs
+
+term-count-requires : tie.Need-term-count-requires
+term-count-requires c κs = search needs
+
+formless-term-requires : tie.Need-formless-term-requires
+formless-term-requires c κs = search needs
+
+or-term-requires : tie.Need-or-term-requires
+or-term-requires c κs =
+    (search needs, first-most _ _ 512 _ (c .formless-term .ensures) (omega arith))
+
+returns : tie.Need-returns
+unfolding formless
+returns c = cc
+
+pub formless-spec : {M : Type 1} → statement M
+formless-spec =
+    tie.close
+    (tie.spec
+    proposition-count-requires
+    formless-proposition-requires
+    term-count-requires
+    formless-term-requires
+    or-term-requires
+    returns)

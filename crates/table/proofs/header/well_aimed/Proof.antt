@@ -1,0 +1,37 @@
+use borrow.Author.Needs.{needs}
+use Rattle.table.proofs.header.well_aimed.Statement.{statement}
+use Rattle.table.proofs.header.well_aimed.Tie as tie
+use Rattle.table.proofs.header.well_aimed.Reads as reads
+use Rattle.table.proofs.header.well_aimed.Lts as lts
+use Rattle.table.proofs.header.expected_field.Reads as expected-field-reads
+use Rattle.table.proofs.header.proposition_count.Reads as proposition-count-reads
+
+expected-field-requires : tie.Need-expected-field-requires
+expected-field-requires c κs = search needs
+
+enum-told : tie.Need-enum-told
+enum-told c = search needs
+
+proposition-count-requires : tie.Need-proposition-count-requires
+proposition-count-requires c κs = search needs
+
+-- /work/main/target/rlib/number.rlib/interface/lang/src/lib.rt:18:32
+enum-told-2 : tie.Need-enum-told-2
+enum-told-2 c = search needs
+
+returns : tie.Need-returns
+returns c = cc
+
+returns-2 : tie.Need-returns-2
+returns-2 c = cc
+
+pub well-aimed-spec : {M : Type 1} → statement M
+well-aimed-spec =
+    tie.close
+    (tie.spec
+    expected-field-requires
+    enum-told
+    proposition-count-requires
+    enum-told-2
+    returns
+    returns-2)

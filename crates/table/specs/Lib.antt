@@ -1,0 +1,7 @@
+pub mod File
+pub mod Form
+pub mod Links
+pub mod Reading
+pub mod Size
+pub mod Tests
+pub mod Passing

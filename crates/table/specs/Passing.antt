@@ -1,0 +1,44 @@
+-- What a table gives that passed a test: the facts that the next tests, and everything above, may lean on.
+-- Assumes nothing.
+use mathlib.Core.Path.{_≡_}
+use mathlib.Core.Bool.{Bool, true, false}
+use mathlib.Core.List.{List}
+use Prim.Native.Nat.{ℕ, _+_, _*_, _<_, _≤_}
+use lib.ListN.{length}
+use Rattle.number.specs.Limits.{most-propositions, most-terms, most-height, most-depth}
+use Rattle.table.specs.declared.Purpose.{Purpose}
+use Rattle.table.specs.declared.Verdict.{Verdict}
+use Rattle.table.specs.declared.Verdict.the-variants.{Passes}
+use Rattle.table.specs.File.{props, terms, propRecord, termRecord}
+use Rattle.table.specs.Form.{prop-form, term-form}
+use Rattle.table.specs.Links.{expected-ok, badly-linked-prop, badly-linked-term}
+use Rattle.table.specs.Reading.{propAt}
+use Rattle.table.specs.Size.{height, depth}
+use Rattle.table.specs.Tests.{header, counts, tests}
+
+-- test 3: the limits, and the length
+pub record Counted (l : List ℕ) : Type 0 where
+  pub propositions : props l ≤ most-propositions
+  pub some : 1 ≤ terms l
+  pub few : terms l ≤ most-terms
+  pub long : length l ≡ 16 + (16 * props l + 16 * terms l)
+
+-- test 4
+pub record Formed (l : List ℕ) : Type 0 where
+  pub prop : (n : ℕ) → n < props l → prop-form (propRecord l n) ≡ true
+  pub term : (t : ℕ) → t < terms l → term-form (termRecord l t) ≡ true
+
+-- test 5
+pub record Linked (p : Purpose) (l : List ℕ) : Type 0 where
+  pub goal : expected-ok p l ≡ true
+  pub prop : (n : ℕ) → n < props l → badly-linked-prop p l n ≡ false
+  pub term : (t : ℕ) → t < terms l → badly-linked-term l t ≡ false
+
+-- test 6
+pub record Sized (l : List ℕ) : Type 0 where
+  pub prop : (n : ℕ) → n < props l → height (propAt l n) ≤ most-height
+  pub term : (t : ℕ) → t < terms l → depth l t ≤ most-depth
+
+-- all
+abbrev pub Good : Purpose → List ℕ → Type 0
+Good p l = tests p l ≡ Passes

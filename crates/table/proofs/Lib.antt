@@ -3,3 +3,9 @@ pub mod Strange
 pub mod Sums
 pub mod Links
 pub mod Headers
+pub mod Reading
+pub mod Namings
+pub mod Sizes
+pub mod Counting
+pub mod Guilts
+pub mod Passing

@@ -4,7 +4,7 @@ use mathlib.Core.Path.{_≡_, refl, sym}
 use mathlib.Core.Bool.{Bool, true, false, _&&_, _||_, not, and-eq-true-iff}
 use mathlib.Core.List.{List, []}
 use mathlib.Core.Logic.{_⊎_, inl, inr}
-use Prim.Native.Nat.{ℕ, _<_, _≤_}
+use Prim.Native.Nat.{ℕ, zero, suc, _+_, _<_, _≤_}
 use native.Mathlib.Nat.{eq-or-lt-of-le}
 use native.Mathlib.Omega.{arith}
 use lib.Dec.{eqb, ltb}
@@ -142,3 +142,19 @@ pub parent-goal : {l : List ℕ} → Linked Check l → parent l (expected l) �
 unfolding parent
 parent-goal {l} h =
     owner-none (λ i. prop-links (propRecord l i)) (props l) (expected l) (omega (arith, prop-once h (expected l) (expected-in h), hit-here (expected l) []))
+
+-- INDUCTION from the children
+module _ {p : Purpose} {l : List ℕ} (h : Linked p l) (F : ℕ → Type 0) where
+  pub prop-induction : ((n : ℕ) → n < props l → ((m : ℕ) → 0 < hits m (prop-links (propRecord l n)) → F m) → F n) → (n : ℕ) → n < props l → F n
+  prop-induction step n k = go (suc n) n (omega arith) k
+    where
+      go : (f n : ℕ) → n < f → n < props l → F n
+      go zero n a k = absurd (omega arith)
+      go (suc f) n a k = step n k (λ m x. let c = child-below h n m k x in go f m (omega arith) (omega arith))
+
+  pub term-induction : ((t : ℕ) → t < terms l → ((c : ℕ) → 0 < hits c (term-links (termRecord l t)) → F c) → F t) → (t : ℕ) → t < terms l → F t
+  term-induction step t k = go (terms l) t (omega arith) k
+    where
+      go : (f t : ℕ) → terms l ≤ t + f → t < terms l → F t
+      go zero t a k = absurd (omega arith)
+      go (suc f) t a k = step t k (λ c x. let r = term-child h t c k x in go f c (omega arith) (r .1))

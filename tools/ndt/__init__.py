@@ -1,0 +1,1 @@
+"""Proof table files: written from text, and printed as text. See tools/README.md."""

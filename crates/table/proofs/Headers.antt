@@ -37,13 +37,17 @@ header-length l h = leb-true 16 (length l) (and-left _ _ h)
 pub counted : (l : List ℕ) → counts l ≡ true → Counted l
 unfolding counts
 counted l h =
-    let a = and-left _ _ h in
-    let b = and-right _ _ a in
+    let A : Bool = leb (props l) most-propositions in
+    let B : Bool = leb 1 (terms l) in
+    let C : Bool = leb (terms l) most-terms in
+    let D : Bool = eqb (length l) (16 + (16 * props l + 16 * terms l)) in
+    let a = and-left (A && (B && C)) D h in
+    let b = and-right A (B && C) a in
     record {
-      propositions = leb-true (props l) most-propositions (and-left _ _ a);
-      some = leb-true 1 (terms l) (and-left _ _ b);
-      few = leb-true (terms l) most-terms (and-right _ _ b);
-      long = eqb-true (length l) (16 + (16 * props l + 16 * terms l)) (and-right _ _ h);
+      propositions = leb-true (props l) most-propositions (and-left A (B && C) a);
+      some = leb-true 1 (terms l) (and-left B C b);
+      few = leb-true (terms l) most-terms (and-right B C b);
+      long = eqb-true (length l) (16 + (16 * props l + 16 * terms l)) (and-right (A && (B && C)) D h);
     }
 
 -- a search among n numbers finds one within n

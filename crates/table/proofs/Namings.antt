@@ -128,33 +128,33 @@ zeros (suc n) zero = refl
 zeros (suc n) (suc i) = zeros n i
 
 module _ (p : Purpose) (l w₀ w₁ w₂ w₃ w₄ : List ℕ) (k P T : ℕ)
-  (empty : w₀ ≡ replicate k 0)
-  (head : Names 0 P (λ j. hits j (heads p l)) w₀ w₁)
-  (by-props : Names 0 P (λ j. sum (λ m. hits j (prop-links (propRecord l m))) P) w₁ w₂)
-  (by-types : Names 0 P (λ j. sum (λ t. hits j (annotation (termRecord l t))) T) w₂ w₃)
-  (by-terms : Names P T (λ j. sum (λ t. hits j (term-links (termRecord l t))) T) w₃ w₄)
+    (empty : w₀ ≡ replicate k 0)
+    (head : Names 0 P (λ j. hits j (heads p l)) w₀ w₁)
+    (by-props : Names 0 P (λ j. sum (λ m. hits j (prop-links (propRecord l m))) P) w₁ w₂)
+    (by-types : Names 0 P (λ j. sum (λ t. hits j (annotation (termRecord l t))) T) w₂ w₃)
+    (by-terms : Names P T (λ j. sum (λ t. hits j (term-links (termRecord l t))) T) w₃ w₄)
   where
-  start : (i : ℕ) → getD w₀ i 0 ≡ 0
-  start i = ap (λ (w : List ℕ). getD w i 0) empty ∙ zeros k i
+    start : (i : ℕ) → getD w₀ i 0 ≡ 0
+    start i = ap (λ (w : List ℕ). getD w i 0) empty ∙ zeros k i
 
-  for-props : Names 0 P (λ j. hits j (heads p l) + (sum (λ m. hits j (prop-links (propRecord l m))) P + sum (λ t. hits j (annotation (termRecord l t))) T)) w₀ w₃
-  for-props = names-then head (names-then by-props by-types)
+    for-props : Names 0 P (λ j. hits j (heads p l) + (sum (λ m. hits j (prop-links (propRecord l m))) P + sum (λ t. hits j (annotation (termRecord l t))) T)) w₀ w₃
+    for-props = names-then head (names-then by-props by-types)
 
-  props-shown : Shows 0 P (λ j. hits j (heads p l) + (sum (λ m. hits j (prop-links (propRecord l m))) P + sum (λ t. hits j (annotation (termRecord l t))) T)) w₄
-  props-shown j h = by-terms .others (0 + j) (λ q _. omega arith) ∙ for-props .shows (λ _. 0) (λ i _. start (0 + i)) j h ∙ ap (λ (n : ℕ). min 2 n) (omega arith)
+    props-shown : Shows 0 P (λ j. hits j (heads p l) + (sum (λ m. hits j (prop-links (propRecord l m))) P + sum (λ t. hits j (annotation (termRecord l t))) T)) w₄
+    props-shown j h = by-terms .others (0 + j) (λ q _. omega arith) ∙ for-props .shows (λ _. 0) (λ i _. start (0 + i)) j h ∙ ap (λ (n : ℕ). min 2 n) (omega arith)
 
-  terms-shown : Shows P T (λ j. sum (λ t. hits j (term-links (termRecord l t))) T) w₄
-  terms-shown j h =
-      by-terms .shows (λ _. 0) (λ i _. for-props .others (P + i) (λ _ q. omega arith) ∙ start (P + i)) j h ∙ ap (λ (n : ℕ). min 2 n) (omega arith)
+    terms-shown : Shows P T (λ j. sum (λ t. hits j (term-links (termRecord l t))) T) w₄
+    terms-shown j h =
+        by-terms .shows (λ _. 0) (λ i _. for-props .others (P + i) (λ _ q. omega arith) ∙ start (P + i)) j h ∙ ap (λ (n : ℕ). min 2 n) (omega arith)
 
-  pub names-shown : P ≡ props l → T ≡ terms l → NamesShown p l w₄
-  names-shown eP eT =
-      record {
-        prop =
-        subst₂
-        (λ (q r : ℕ). Shows 0 q (λ j. hits j (heads p l) + (sum (λ m. hits j (prop-links (propRecord l m))) q + sum (λ t. hits j (annotation (termRecord l t))) r)) w₄)
-        eP
-        eT
-        props-shown;
-        term = subst₂ (λ (q r : ℕ). Shows q r (λ j. sum (λ t. hits j (term-links (termRecord l t))) r) w₄) eP eT terms-shown;
-      }
+    pub names-shown : P ≡ props l → T ≡ terms l → NamesShown p l w₄
+    names-shown eP eT =
+        record {
+          prop =
+              subst₂
+              (λ (q r : ℕ). Shows 0 q (λ j. hits j (heads p l) + (sum (λ m. hits j (prop-links (propRecord l m))) q + sum (λ t. hits j (annotation (termRecord l t))) r)) w₄)
+              eP
+              eT
+              props-shown;
+          term = subst₂ (λ (q r : ℕ). Shows q r (λ j. sum (λ t. hits j (term-links (termRecord l t))) r) w₄) eP eT terms-shown;
+        }

@@ -21,6 +21,7 @@ use Rattle.table.specs.File.{props, terms, propRecord, termRecord, PropK
 use Rattle.table.specs.Form.{prop-shape, in-prop-shape, prop-form, term-shape, in-term-shape, term-form}
 use Rattle.table.specs.Links.{prop-children, prop-links, term-children, term-links, hits}
 use Rattle.table.specs.Reading.{parent, object, above, binders-within, binders, settled, prop-of, prop-within, propAt, type-of, ascribed, term-of, annotated, term-within, termAt}
+use Rattle.table.specs.Nearest.{nearer, nearest-above, nearest-within, nearest}
 use Rattle.table.specs.Passing.{Formed, Linked}
 use Rattle.table.proofs.Sums.{hit-here, hit-later}
 use Rattle.table.proofs.Links.{child-below, term-child, parent-child, parent-above}
@@ -219,25 +220,6 @@ module _ {X : Type 0} (up : ℕ → Guilty) (rank : ℕ → ℕ) (falls : (n m :
 
   pub climb-up : (f g n m : ℕ) → rank n ≤ f → rank m ≤ g → up n ≡ At m → within f n ≡ on m (within g m)
   climb-up f g n m a b e = climb-enough f (suc f) n a (omega arith) ∙ next f n m e ∙ ap (on m) (climb-enough f g m (omega (arith, falls n m e)) b)
-
--- THE NEAREST QUANTIFIER above record n
-unfoldable pub nearer : PropKind → ℕ → Guilty → Guilty
-nearer (constant b) n g = g
-nearer (linked h) n g = g
-nearer (quantified q) n g = At n
-nearer atomic n g = g
-nearer strange n g = g
-
-unfoldable pub nearest-above : List ℕ → Guilty → (ℕ → Guilty) → Guilty
-nearest-above l Nobody up = Nobody
-nearest-above l (At p) up = nearer (prop-kind (propRecord l p .kind)) p (up p)
-
-unfoldable pub nearest-within : ℕ → List ℕ → ℕ → Guilty
-nearest-within zero l n = Nobody
-nearest-within (suc f) l n = nearest-above l (parent l n) (nearest-within f l)
-
-unfoldable pub nearest : List ℕ → ℕ → Guilty
-nearest l n = nearest-within (props l) l n
 
 module _ {p : Purpose} {l : List ℕ} (h : Linked p l) where
   abbrev kind-at : ℕ → PropKind

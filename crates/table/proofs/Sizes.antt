@@ -14,6 +14,7 @@ use Rattle.table.specs.Form.{prop-shape}
 use Rattle.table.specs.Links.{term-links, hits}
 use Rattle.table.specs.Reading.{binders, settled, prop-of, propAt}
 use Rattle.table.specs.Size.{height, holder, below, depth-within, depth}
+use Rattle.table.specs.Closed.{closed-params}
 use Rattle.table.specs.Passing.{Formed, Linked}
 use Rattle.table.proofs.Links.{holder-child, holder-above}
 use Rattle.table.proofs.Reading.{prop-step, count-range, climb-up}
@@ -71,10 +72,6 @@ each-anywhere t d e (const o b) = refl
 each-anywhere t d e (link o h A B) = ap₂ _&&_ (each-anywhere t d e A) (each-anywhere t d e B)
 each-anywhere t d e (quant o q x D B) = each-anywhere t (suc d) (suc e) B
 each-anywhere t d e (atom o p xs) = refl
-
--- no free name among the parameters
-abbrev pub closed-params : List ℕ → ℕ → Record → Bool
-closed-params l n r = each-param named-not (map (λ x. settled x 0 (binders l n)) (take (r .count) (r .parameters)))
 
 module _ (l : List ℕ) (n : ℕ) (sub : ℕ → Prop) where
   closed-none-of : (K : PropKind) (r : Record) → prop-shape K .least ≤ r .count → r .count ≤ prop-shape K .most → prop-shape K .children ≡ 0 → closed (prop-of l n sub K r) ≡ closed-params l n r

@@ -3,6 +3,9 @@ pub mod Form
 pub mod Links
 pub mod Naming
 pub mod Reading
+pub mod Nearest
 pub mod Size
+pub mod Sizing
+pub mod Closed
 pub mod Tests
 pub mod Passing

@@ -34,6 +34,11 @@ pub record Linked (p : Purpose) (l : List ℕ) : Type 0 where
   pub prop : (n : ℕ) → n < props l → badly-linked-prop p l n ≡ false
   pub term : (t : ℕ) → t < terms l → badly-linked-term l t ≡ false
 
+-- test 5 passed, for either purpose
+pub record WellLinked (l : List ℕ) : Type 0 where
+  pub purpose : Purpose
+  pub linked : Linked purpose l
+
 -- test 6
 pub record Sized (l : List ℕ) : Type 0 where
   pub prop : (n : ℕ) → n < props l → height (propAt l n) ≤ most-height

@@ -8,12 +8,15 @@ ghost use Rattle.table.specs.Form.{fits, «prop-shape», «prop-form», 
 ghost use Rattle.table.specs.Reading.{first};
 ghost use Rattle.table.specs.Tests.{AtMost, «or-term», formless};
 ghost use Rattle.table.specs.Passing.{Counted};
-
 use super::Guilty;
-use super::header::{proposition_count, term_count};
-use super::record::{TermRecord, proposition_at, term_at};
+use super::header::proposition_count;
+use super::header::term_count;
+use super::record::TermRecord;
+use super::record::proposition_at;
+use super::record::term_at;
+use number::Proposition;
+use number::Term;
 use number::record::Record;
-use number::{Proposition, Term};
 
 // What a kind of proposition uses: of the fields a, b and c the first so many; so many children; and this range of parameter
 // counts, an empty one for a kind that is not known.
@@ -35,7 +38,12 @@ pub struct TermShape {
 fn prop_row(fields: u8, children: u8, least: u8, most: u8) -> PropShape
     ensures { λ r. ⌜ r ≡ record { fields = fields; children = children; least = least; most = most } ⌝ }
 {
-    PropShape { fields, children, least, most }
+    PropShape {
+        fields,
+        children,
+        least,
+        most,
+    }
 }
 
 // One decision over the eight kinds of proposition.
@@ -58,7 +66,12 @@ pub fn prop_shape(kind: u8) -> PropShape
 fn term_row(names: u8, children: u8, least: u8, most: u8) -> TermShape
     ensures { λ r. ⌜ r ≡ record { names = names; children = children; least = least; most = most } ⌝ }
 {
-    TermShape { names, children, least, most }
+    TermShape {
+        names,
+        children,
+        least,
+        most,
+    }
 }
 
 // One decision over the fourteen kinds of term.
@@ -111,8 +124,7 @@ fn term_form(r: TermRecord) -> bool
     let tagged = (s.least <= n) & ((n <= s.most) & fits(0 < n, r.typ));
     let named = fits(0 < s.names, r.name1.0) & fits(1 < s.names, r.name2.0);
     let linked = fits(0 < s.children, r.child1.0)
-        & (fits(1 < s.children, r.child2.0)
-            & (fits(2 < s.children, r.child3.0) & (r.zero == 0)));
+        & (fits(1 < s.children, r.child2.0) & (fits(2 < s.children, r.child3.0) & (r.zero == 0)));
     tagged & (named & linked)
 }
 

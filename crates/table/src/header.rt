@@ -6,10 +6,10 @@ ghost use lib.ListN.{length};
 ghost use Rattle.table.specs.File.{props, terms, expected};
 ghost use Rattle.table.specs.Links.{«expected-ok»};
 ghost use Rattle.table.specs.Tests.{mark, blank, header, counts};
-
 use super::Purpose;
+use number::Proposition;
+use number::Term;
 use number::record::word;
-use number::{Proposition, Term};
 
 pub fn proposition_count(file: &[u8]) -> u16
     requires { ⌜ 16 ≤ length (now file) ⌝ }

@@ -14,8 +14,6 @@ pub mod naming;
 pub mod record;
 pub mod size;
 
-use number::{Proposition, Term};
-
 // What a table is for: document 01's two entries.
 pub enum Purpose {
     Check,
@@ -37,3 +35,45 @@ pub enum Verdict {
 // The bytes of the work room that the tests use: two for each proposition that a table may have.
 pub const ROOM: usize = 2048;
 
+// The verdict of the tests. The room is as long as the tests want it, and what they leave there is not settled.
+fn run_tests(file: &[u8], work: &mut [u8], purpose: Purpose) -> Verdict
+    requires { ⌜ 2048 ≤ length (now work) ⌝ }
+    ensures { λ r. ⌜ r ≡ tests purpose (now (file .entry)) ⌝ }
+{
+    if !header::well_marked(file) {
+        return Verdict::Refused(2, 0);
+    }
+    if !header::well_counted(file) {
+        return Verdict::Refused(3, 0);
+    }
+    let formless = form::formless(file);
+    if let Guilty::At(i) = formless {
+        return Verdict::Refused(4, i);
+    }
+    if !header::well_aimed(file, purpose) {
+        return Verdict::Refused(5, 0);
+    }
+    let misled = link::badly_linked(file, work, purpose);
+    if let Guilty::At(i) = misled {
+        return Verdict::Refused(5, i);
+    }
+    let large = size::oversized(file, work);
+    if let Guilty::At(i) = large {
+        return Verdict::Refused(6, i);
+    }
+    closed::open_goal(file, work, purpose)
+}
+
+// Tests 2 to 7 of any bytes in any work room; a room that is too short is refusal 1. The bytes that the tests use are zeros
+// afterwards, as far as the room goes, and the others are untouched.
+pub fn test_table(file: &[u8], work: &mut [u8], purpose: Purpose) -> Verdict
+    ensures { λ r. ⌜ Tested purpose (now (file .entry)) (now (work .entry)) (now (work .exit)) r ⌝ }
+{
+    if work.len() < ROOM {
+        number::room::clear(work, ROOM);
+        return Verdict::Refused(1, 0);
+    }
+    let answer = run_tests(file, &mut work[..ROOM], purpose);
+    number::room::clear(work, ROOM);
+    answer
+}

@@ -9,14 +9,20 @@ ghost use Rattle.table.specs.Links.{«all-links», annotation, «prop-li
 ghost use Rattle.table.specs.Passing.{Counted};
 ghost use Rattle.table.specs.Reading.{first};
 ghost use Rattle.table.specs.Tests.{«badly-linked»};
-
-use super::form::{or_term, prop_shape, term_shape};
-use super::header::{proposition_count, term_count};
+use super::Guilty;
+use super::Purpose;
+use super::form::or_term;
+use super::form::prop_shape;
+use super::form::term_shape;
+use super::header::proposition_count;
+use super::header::term_count;
 use super::naming::count_names;
-use super::record::{TermRecord, proposition_at, term_at};
-use super::{Guilty, Purpose};
+use super::record::TermRecord;
+use super::record::proposition_at;
+use super::record::term_at;
+use number::Proposition;
+use number::Term;
 use number::record::Record;
-use number::{Proposition, Term};
 
 // Children have smaller numbers.
 fn prop_links_ok(r: Record, n: u16) -> bool

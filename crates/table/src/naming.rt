@@ -7,14 +7,19 @@ ghost use Rattle.table.specs.File.{props, terms, propRecord, termRecord}
 ghost use Rattle.table.specs.Links.{hits, sum, annotation, «prop-links», «term-links»};
 ghost use Rattle.table.specs.Naming.{Names, «used-hits», NamesShown};
 ghost use Rattle.table.specs.Passing.{Counted};
-
 use super::Purpose;
-use super::form::{prop_shape, term_shape};
-use super::header::{expected_field, proposition_count, term_count};
-use super::record::{TermRecord, proposition_at, term_at};
+use super::form::prop_shape;
+use super::form::term_shape;
+use super::header::expected_field;
+use super::header::proposition_count;
+use super::header::term_count;
+use super::record::TermRecord;
+use super::record::proposition_at;
+use super::record::term_at;
+use number::Proposition;
+use number::Term;
 use number::record::Record;
 use number::room::fill_zero;
-use number::{Proposition, Term};
 
 // One name more: more than one is all the same.
 fn note(work: &mut [u8], i: usize)

@@ -4,9 +4,11 @@ ghost use Prim.Native.Nat.{_+_, _*_, _≤_};
 ghost use lib.ListN.{length};
 ghost use Rattle.number.specs.Records.{recordAt};
 ghost use Rattle.table.specs.File.{propRecord, asTerm};
-
-use number::record::{Record, record_at};
-use number::{Name, Proposition, Term};
+use number::Name;
+use number::Proposition;
+use number::Term;
+use number::record::Record;
+use number::record::record_at;
 
 // A term's record: sixteen bytes under a term's names.
 pub struct TermRecord {

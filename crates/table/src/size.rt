@@ -1,1 +1,123 @@
-// size
+// Test 6: heights of propositions from the smallest number up, depths of terms from the root down, a byte of the work room each.
+ghost use mathlib.Core.Path.{_≡_};
+ghost use mathlib.Core.Bool.{true};
+ghost use Prim.Native.Nat.{_+_, _*_, _<_, _≤_};
+ghost use lib.ListN.{length};
+ghost use Rattle.table.specs.File.{props, terms};
+ghost use Rattle.table.specs.Passing.{Counted, WellLinked};
+ghost use Rattle.table.specs.Reading.{first};
+ghost use Rattle.table.specs.Size.{«too-high», «too-deep»};
+ghost use Rattle.table.specs.Sizing.{heightOf, ChildrenHigh, ChildrenDeep, ChildrenIn, DepthSet};
+ghost use Rattle.table.specs.Tests.{oversized};
+use super::Guilty;
+use super::form::or_term;
+use super::form::prop_shape;
+use super::form::term_shape;
+use super::header::proposition_count;
+use super::header::term_count;
+use super::record::TermRecord;
+use super::record::proposition_at;
+use super::record::term_at;
+use number::Proposition;
+use number::Term;
+use number::record::Record;
+
+// The height of record r over its children's heights.
+fn height_of(work: &[u8], r: Record) -> u8
+    requires { ⌜ ChildrenHigh r (now work) ⌝ }
+    ensures { λ h. ⌜ h ≡ heightOf r (now (work .entry)) ⌝ }
+{
+    let s = prop_shape(r.kind);
+    let k = s.children;
+    match k {
+        0 => 1,
+        1 => {
+            let i = r.c as usize;
+            work[i] + 1
+        }
+        2..=255 => {
+            let i = r.a as usize;
+            let j = r.b as usize;
+            if work[i] <= work[j] {
+                work[j] + 1
+            } else {
+                work[i] + 1
+            }
+        }
+    }
+}
+
+fn too_high(file: &[u8], work: &mut [u8], p: u16) -> Guilty
+    requires { ⌜ (p ≡ props (now file)) × (16 + 16 * p ≤ length (now file)) × (p ≤ length (now work)) ⌝ }
+    requires { ⌜ WellLinked (now file) ⌝ }
+    ensures { λ r. ⌜ r ≡ first («too-high» (now (file .entry))) p ⌝ }
+{
+    let mut n: u16 = 0;
+    while n < p {
+        let r = proposition_at(file, Proposition(n));
+        let h = height_of(work, r);
+        if Proposition::HEIGHT < h {
+            return Guilty::At(n);
+        }
+        let i = n as usize;
+        work[i] = h;
+        n += 1;
+    }
+    Guilty::Nobody
+}
+
+// The child, if it is used, stands at depth d.
+fn set_depth(work: &mut [u8], used: bool, child: u16, d: u8)
+    requires { ⌜ (used ≡ true → child < length (now work)) ⌝ }
+    ensures { λ _. ⌜ DepthSet used child d (now (work .entry)) (now (work .exit)) ⌝ }
+{
+    if used {
+        let i = child as usize;
+        work[i] = d;
+    }
+}
+
+// The children of term r stand at depth d.
+fn set_depths(work: &mut [u8], r: TermRecord, d: u8)
+    requires { ⌜ ChildrenIn r (now work) ⌝ }
+    ensures { λ _. ⌜ ChildrenDeep r d (now (work .entry)) (now (work .exit)) ⌝ }
+{
+    let s = term_shape(r.kind);
+    let k = s.children;
+    set_depth(work, 0 < k, r.child1.0, d);
+    set_depth(work, 1 < k, r.child2.0, d);
+    set_depth(work, 2 < k, r.child3.0, d);
+}
+
+fn too_deep(file: &[u8], work: &mut [u8], p: u16, count: u16) -> Guilty
+    requires { ⌜ (p ≡ props (now file)) × (count ≡ terms (now file)) × (16 + (16 * p + 16 * count) ≤ length (now file)) × (count ≤ length (now work)) × (1 ≤ count) ⌝ }
+    requires { ⌜ WellLinked (now file) ⌝ }
+    ensures { λ r. ⌜ r ≡ first («too-deep» (now (file .entry))) count ⌝ }
+{
+    work[0] = 1;
+    let mut t: u16 = 0;
+    while t < count {
+        let i = t as usize;
+        let d = work[i];
+        if Term::DEPTH < d {
+            return Guilty::At(t);
+        }
+        let r = term_at(file, p, Term(t));
+        set_depths(work, r, d + 1);
+        t += 1;
+    }
+    Guilty::Nobody
+}
+
+pub fn oversized(file: &[u8], work: &mut [u8]) -> Guilty
+    requires { ⌜ Counted (now file) ⌝ }
+    requires { ⌜ WellLinked (now file) ⌝ }
+    requires { ⌜ 2048 ≤ length (now work) ⌝ }
+    ensures { λ r. ⌜ r ≡ oversized (now (file .entry)) ⌝ }
+{
+    let p = proposition_count(file);
+    let count = term_count(file);
+    let g = too_high(file, work, p);
+    let h = too_deep(file, work, p, count);
+    or_term(g, p, h)
+}

@@ -23,7 +23,7 @@ impl Name {
     pub fn from_bytes(low: u8, high: u8) -> Self
         ensures { λ r. ⌜ r .0 ≡ low + 256 * high ⌝ }
     {
-        Self(low as u16 + 256 * (high as u16))
+        Name(low as u16 + 256 * (high as u16))
     }
 }
 
@@ -36,7 +36,7 @@ impl Serial {
     pub fn from_bytes(low: u8, high: u8) -> Self
         ensures { λ r. ⌜ r .0 ≡ low + 256 * high ⌝ }
     {
-        Self(low as u16 + 256 * (high as u16))
+        Serial(low as u16 + 256 * (high as u16))
     }
 }
 
@@ -53,7 +53,7 @@ impl Proposition {
     pub fn from_bytes(low: u8, high: u8) -> Self
         ensures { λ r. ⌜ r .0 ≡ low + 256 * high ⌝ }
     {
-        Self(low as u16 + 256 * (high as u16))
+        Proposition(low as u16 + 256 * (high as u16))
     }
 }
 
@@ -66,7 +66,7 @@ impl Term {
     pub fn from_bytes(low: u8, high: u8) -> Self
         ensures { λ r. ⌜ r .0 ≡ low + 256 * high ⌝ }
     {
-        Self(low as u16 + 256 * (high as u16))
+        Term(low as u16 + 256 * (high as u16))
     }
 }
 

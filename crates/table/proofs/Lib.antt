@@ -9,3 +9,6 @@ pub mod Sizes
 pub mod Counting
 pub mod Guilts
 pub mod Passing
+pub mod Heights
+pub mod Chains
+pub mod Verdicts

@@ -46,7 +46,7 @@ fn all_bound(file: &[u8], work: &[u8], n: Proposition, r: Record) -> bool
     requires { ⌜ Counted (now file) ⌝ }
     requires { ⌜ WellLinked (now file) ⌝ }
     requires { ⌜ Above (now file) (now work) ⌝ }
-    requires { ⌜ (n .0 < props (now file)) × (2048 ≤ length (now work)) × (r .count ≤ 4) ⌝ }
+    requires { ⌜ (n .0 < props (now file)) × (2048 ≤ length (now work)) ⌝ }
     ensures { λ ok. ⌜ ok ≡ «closed-params» (now (file .entry)) (n .0) r ⌝ }
 {
     let k = r.count;

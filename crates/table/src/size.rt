@@ -1,13 +1,14 @@
 // Test 6: heights of propositions from the smallest number up, depths of terms from the root down, a byte of the work room each.
 ghost use mathlib.Core.Path.{_≡_};
-ghost use mathlib.Core.Bool.{true};
-ghost use Prim.Native.Nat.{_+_, _*_, _<_, _≤_};
+ghost use Prim.Native.Nat.{_+_, _*_, _≤_};
 ghost use lib.ListN.{length};
 ghost use Rattle.table.specs.File.{props, terms};
+ghost use Rattle.table.specs.Links.{hits, «term-links»};
+ghost use Rattle.table.specs.Naming.{«used-hits»};
 ghost use Rattle.table.specs.Passing.{Counted, WellLinked};
 ghost use Rattle.table.specs.Reading.{first};
 ghost use Rattle.table.specs.Size.{«too-high», «too-deep»};
-ghost use Rattle.table.specs.Sizing.{heightOf, ChildrenHigh, ChildrenDeep, ChildrenIn, DepthSet};
+ghost use Rattle.table.specs.Sizing.{heightOf, ChildrenHigh, Within, Deepened};
 ghost use Rattle.table.specs.Tests.{oversized};
 use super::Guilty;
 use super::form::or_term;
@@ -38,11 +39,9 @@ fn height_of(work: &[u8], r: Record) -> u8
         2..=255 => {
             let i = r.a as usize;
             let j = r.b as usize;
-            if work[i] <= work[j] {
-                work[j] + 1
-            } else {
-                work[i] + 1
-            }
+            let x = work[i];
+            let y = work[j];
+            if x <= y { y + 1 } else { x + 1 }
         }
     }
 }
@@ -68,8 +67,8 @@ fn too_high(file: &[u8], work: &mut [u8], p: u16) -> Guilty
 
 // The child, if it is used, stands at depth d.
 fn set_depth(work: &mut [u8], used: bool, child: u16, d: u8)
-    requires { ⌜ (used ≡ true → child < length (now work)) ⌝ }
-    ensures { λ _. ⌜ DepthSet used child d (now (work .entry)) (now (work .exit)) ⌝ }
+    requires { ⌜ Within («used-hits» used child) (now work) ⌝ }
+    ensures { λ _. ⌜ Deepened («used-hits» used child) d (now (work .entry)) (now (work .exit)) ⌝ }
 {
     if used {
         let i = child as usize;
@@ -79,8 +78,8 @@ fn set_depth(work: &mut [u8], used: bool, child: u16, d: u8)
 
 // The children of term r stand at depth d.
 fn set_depths(work: &mut [u8], r: TermRecord, d: u8)
-    requires { ⌜ ChildrenIn r (now work) ⌝ }
-    ensures { λ _. ⌜ ChildrenDeep r d (now (work .entry)) (now (work .exit)) ⌝ }
+    requires { ⌜ Within (λ t. hits t («term-links» r)) (now work) ⌝ }
+    ensures { λ _. ⌜ Deepened (λ t. hits t («term-links» r)) d (now (work .entry)) (now (work .exit)) ⌝ }
 {
     let s = term_shape(r.kind);
     let k = s.children;

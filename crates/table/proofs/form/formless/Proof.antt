@@ -4,13 +4,6 @@ use Rattle.table.proofs.Headers.{first-most}
 use borrow.Author.Needs.{needs}
 use Rattle.table.proofs.form.formless.Statement.{statement}
 use Rattle.table.proofs.form.formless.Tie as tie
-use Rattle.table.proofs.form.formless.Reads as reads
-use Rattle.table.proofs.form.formless.Lts as lts
-use Rattle.table.proofs.form.formless_proposition.Reads as formless-proposition-reads
-use Rattle.table.proofs.form.formless_term.Reads as formless-term-reads
-use Rattle.table.proofs.form.or_term.Reads as or-term-reads
-use Rattle.table.proofs.header.proposition_count.Reads as proposition-count-reads
-use Rattle.table.proofs.header.term_count.Reads as term-count-reads
 
 proposition-count-requires : tie.Need-proposition-count-requires
 proposition-count-requires c κs = search needs

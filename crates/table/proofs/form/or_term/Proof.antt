@@ -6,8 +6,6 @@ use Rattle.table.specs.Tests.{or-term}
 use borrow.Author.Needs.{needs}
 use Rattle.table.proofs.form.or_term.Statement.{statement}
 use Rattle.table.proofs.form.or_term.Tie as tie
-use Rattle.table.proofs.form.or_term.Reads as reads
-use Rattle.table.proofs.form.or_term.Lts as lts
 
 enum-known-g : tie.Need-enum-known-g
 enum-known-g c = search needs

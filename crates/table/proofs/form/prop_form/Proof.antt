@@ -2,10 +2,6 @@ use Rattle.table.specs.Form.{prop-form}
 use borrow.Author.Needs.{needs}
 use Rattle.table.proofs.form.prop_form.Statement.{statement}
 use Rattle.table.proofs.form.prop_form.Tie as tie
-use Rattle.table.proofs.form.prop_form.Reads as reads
-use Rattle.table.proofs.form.prop_form.Lts as lts
-use Rattle.table.proofs.form.fits.Reads as fits-reads
-use Rattle.table.proofs.form.prop_shape.Reads as prop-shape-reads
 
 prop-shape-requires : tie.Need-prop-shape-requires
 prop-shape-requires c κs = search needs

@@ -6,9 +6,6 @@ use Rattle.table.specs.File.{prop-kind, prop-kinds}
 use borrow.Author.Needs.{needs}
 use Rattle.table.proofs.form.prop_shape.Statement.{statement}
 use Rattle.table.proofs.form.prop_shape.Tie as tie
-use Rattle.table.proofs.form.prop_shape.Reads as reads
-use Rattle.table.proofs.form.prop_shape.Lts as lts
-use Rattle.table.proofs.form.prop_row.Reads as prop-row-reads
 
 prop-row-requires : tie.Need-prop-row-requires
 prop-row-requires c κs = search needs

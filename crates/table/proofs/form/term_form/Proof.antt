@@ -2,10 +2,6 @@ use Rattle.table.specs.Form.{term-form}
 use borrow.Author.Needs.{needs}
 use Rattle.table.proofs.form.term_form.Statement.{statement}
 use Rattle.table.proofs.form.term_form.Tie as tie
-use Rattle.table.proofs.form.term_form.Reads as reads
-use Rattle.table.proofs.form.term_form.Lts as lts
-use Rattle.table.proofs.form.fits.Reads as fits-reads
-use Rattle.table.proofs.form.term_shape.Reads as term-shape-reads
 
 term-shape-requires : tie.Need-term-shape-requires
 term-shape-requires c κs = search needs

@@ -6,9 +6,6 @@ use Rattle.table.specs.File.{kind-of, kinds}
 use borrow.Author.Needs.{needs}
 use Rattle.table.proofs.form.term_shape.Statement.{statement}
 use Rattle.table.proofs.form.term_shape.Tie as tie
-use Rattle.table.proofs.form.term_shape.Reads as reads
-use Rattle.table.proofs.form.term_shape.Lts as lts
-use Rattle.table.proofs.form.term_row.Reads as term-row-reads
 
 term-row-requires : tie.Need-term-row-requires
 term-row-requires c κs = search needs

@@ -1,10 +1,6 @@
 use borrow.Author.Needs.{needs}
 use Rattle.table.proofs.header.well_aimed.Statement.{statement}
 use Rattle.table.proofs.header.well_aimed.Tie as tie
-use Rattle.table.proofs.header.well_aimed.Reads as reads
-use Rattle.table.proofs.header.well_aimed.Lts as lts
-use Rattle.table.proofs.header.expected_field.Reads as expected-field-reads
-use Rattle.table.proofs.header.proposition_count.Reads as proposition-count-reads
 
 expected-field-requires : tie.Need-expected-field-requires
 expected-field-requires c κs = search needs

@@ -2,10 +2,6 @@ use Rattle.table.specs.Tests.{counts}
 use borrow.Author.Needs.{needs}
 use Rattle.table.proofs.header.well_counted.Statement.{statement}
 use Rattle.table.proofs.header.well_counted.Tie as tie
-use Rattle.table.proofs.header.well_counted.Reads as reads
-use Rattle.table.proofs.header.well_counted.Lts as lts
-use Rattle.table.proofs.header.proposition_count.Reads as proposition-count-reads
-use Rattle.table.proofs.header.term_count.Reads as term-count-reads
 
 proposition-count-requires : tie.Need-proposition-count-requires
 proposition-count-requires c κs = search needs

@@ -9,11 +9,6 @@ use Rattle.table.specs.Tests.{header}
 use borrow.Author.Needs.{needs}
 use Rattle.table.proofs.header.well_marked.Statement.{statement}
 use Rattle.table.proofs.header.well_marked.Tie as tie
-use Rattle.table.proofs.header.well_marked.Reads as reads
-use Rattle.table.proofs.header.well_marked.Lts as lts
-use Rattle.number.proofs.record.word.Reads as word-reads
-use Rattle.table.proofs.header.has_blank.Reads as has-blank-reads
-use Rattle.table.proofs.header.has_mark.Reads as has-mark-reads
 
 returns : tie.Need-returns
 unfolding header

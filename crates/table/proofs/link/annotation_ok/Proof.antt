@@ -2,8 +2,6 @@ use lib.Dec.{ltb}
 use Rattle.table.proofs.Guilts.{annotation-test}
 use Rattle.table.proofs.link.annotation_ok.Statement.{statement}
 use Rattle.table.proofs.link.annotation_ok.Tie as tie
-use Rattle.table.proofs.link.annotation_ok.Reads as reads
-use Rattle.table.proofs.link.annotation_ok.Lts as lts
 
 returns : tie.Need-returns
 returns c = let a = c .before .before .args in annotation-test (λ m. ltb m (a .p)) (a .r .tag) (a .r .typ)

@@ -5,14 +5,6 @@ use Rattle.table.proofs.Guilts.{linked-answer}
 use borrow.Author.Needs.{needs}
 use Rattle.table.proofs.link.badly_linked.Statement.{statement}
 use Rattle.table.proofs.link.badly_linked.Tie as tie
-use Rattle.table.proofs.link.badly_linked.Reads as reads
-use Rattle.table.proofs.link.badly_linked.Lts as lts
-use Rattle.table.proofs.form.or_term.Reads as or-term-reads
-use Rattle.table.proofs.header.proposition_count.Reads as proposition-count-reads
-use Rattle.table.proofs.header.term_count.Reads as term-count-reads
-use Rattle.table.proofs.link.badly_linked_proposition.Reads as badly-linked-proposition-reads
-use Rattle.table.proofs.link.badly_linked_term.Reads as badly-linked-term-reads
-use Rattle.table.proofs.naming.count_names.Reads as count-names-reads
 
 proposition-count-requires : tie.Need-proposition-count-requires
 proposition-count-requires c κs = search needs

@@ -7,9 +7,6 @@ use Rattle.table.proofs.Guilts.{no-child, one-child, two-children}
 use borrow.Author.Needs.{needs}
 use Rattle.table.proofs.link.prop_links_ok.Statement.{statement}
 use Rattle.table.proofs.link.prop_links_ok.Tie as tie
-use Rattle.table.proofs.link.prop_links_ok.Reads as reads
-use Rattle.table.proofs.link.prop_links_ok.Lts as lts
-use Rattle.table.proofs.form.prop_shape.Reads as prop-shape-reads
 
 prop-shape-requires : tie.Need-prop-shape-requires
 prop-shape-requires c κs = search needs

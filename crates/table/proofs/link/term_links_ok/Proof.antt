@@ -7,11 +7,6 @@ use Rattle.table.proofs.Guilts.{children-test}
 use borrow.Author.Needs.{needs}
 use Rattle.table.proofs.link.term_links_ok.Statement.{statement}
 use Rattle.table.proofs.link.term_links_ok.Tie as tie
-use Rattle.table.proofs.link.term_links_ok.Reads as reads
-use Rattle.table.proofs.link.term_links_ok.Lts as lts
-use Rattle.table.proofs.form.term_shape.Reads as term-shape-reads
-use Rattle.table.proofs.link.annotation_ok.Reads as annotation-ok-reads
-use Rattle.table.proofs.link.child_ok.Reads as child-ok-reads
 
 term-shape-requires : tie.Need-term-shape-requires
 term-shape-requires c κs = search needs

@@ -8,10 +8,6 @@ use Rattle.table.proofs.Namings.{names-same}
 use borrow.Author.Needs.{needs}
 use Rattle.table.proofs.naming.by_header.Statement.{statement}
 use Rattle.table.proofs.naming.by_header.Tie as tie
-use Rattle.table.proofs.naming.by_header.Reads as reads
-use Rattle.table.proofs.naming.by_header.Lts as lts
-use Rattle.table.proofs.header.expected_field.Reads as expected-field-reads
-use Rattle.table.proofs.naming.name.Reads as name-reads
 
 expected-field-requires : tie.Need-expected-field-requires
 expected-field-requires c κs = search needs

@@ -3,15 +3,6 @@ use Rattle.table.proofs.Namings.{names-shown}
 use borrow.Author.Needs.{needs}
 use Rattle.table.proofs.naming.count_names.Statement.{statement}
 use Rattle.table.proofs.naming.count_names.Tie as tie
-use Rattle.table.proofs.naming.count_names.Reads as reads
-use Rattle.table.proofs.naming.count_names.Lts as lts
-use Rattle.number.proofs.room.fill_zero.Reads as fill-zero-reads
-use Rattle.table.proofs.header.proposition_count.Reads as proposition-count-reads
-use Rattle.table.proofs.header.term_count.Reads as term-count-reads
-use Rattle.table.proofs.naming.by_annotations.Reads as by-annotations-reads
-use Rattle.table.proofs.naming.by_header.Reads as by-header-reads
-use Rattle.table.proofs.naming.by_propositions.Reads as by-propositions-reads
-use Rattle.table.proofs.naming.by_terms.Reads as by-terms-reads
 
 proposition-count-requires : tie.Need-proposition-count-requires
 proposition-count-requires c κs = search needs

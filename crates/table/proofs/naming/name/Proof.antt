@@ -2,9 +2,6 @@ use Rattle.table.proofs.Namings.{name-unused, name-past, name-note}
 use borrow.Author.Needs.{needs}
 use Rattle.table.proofs.naming.name.Statement.{statement}
 use Rattle.table.proofs.naming.name.Tie as tie
-use Rattle.table.proofs.naming.name.Reads as reads
-use Rattle.table.proofs.naming.name.Lts as lts
-use Rattle.table.proofs.naming.note.Reads as note-reads
 
 add-note : tie.Need-add-note
 add-note c = search needs

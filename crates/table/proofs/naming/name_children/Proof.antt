@@ -5,10 +5,6 @@ use Rattle.table.proofs.Namings.{names-three, prop-hits}
 use borrow.Author.Needs.{needs}
 use Rattle.table.proofs.naming.name_children.Statement.{statement}
 use Rattle.table.proofs.naming.name_children.Tie as tie
-use Rattle.table.proofs.naming.name_children.Reads as reads
-use Rattle.table.proofs.naming.name_children.Lts as lts
-use Rattle.table.proofs.form.prop_shape.Reads as prop-shape-reads
-use Rattle.table.proofs.naming.name.Reads as name-reads
 
 prop-shape-requires : tie.Need-prop-shape-requires
 prop-shape-requires c κs = search needs

@@ -5,10 +5,6 @@ use Rattle.table.proofs.Namings.{names-three, term-hits}
 use borrow.Author.Needs.{needs}
 use Rattle.table.proofs.naming.name_subterms.Statement.{statement}
 use Rattle.table.proofs.naming.name_subterms.Tie as tie
-use Rattle.table.proofs.naming.name_subterms.Reads as reads
-use Rattle.table.proofs.naming.name_subterms.Lts as lts
-use Rattle.table.proofs.form.term_shape.Reads as term-shape-reads
-use Rattle.table.proofs.naming.name.Reads as name-reads
 
 term-shape-requires : tie.Need-term-shape-requires
 term-shape-requires c κs = search needs

@@ -5,8 +5,6 @@ use lib.ListN.{set}
 use borrow.Author.Needs.{needs}
 use Rattle.table.proofs.naming.note.Statement.{statement}
 use Rattle.table.proofs.naming.note.Tie as tie
-use Rattle.table.proofs.naming.note.Reads as reads
-use Rattle.table.proofs.naming.note.Lts as lts
 
 slice-read-if1 : tie.Need-slice-read-if1
 slice-read-if1 c = search needs

@@ -1,10 +1,6 @@
 use borrow.Author.Needs.{needs}
 use Rattle.table.proofs.record.term_at.Statement.{statement}
 use Rattle.table.proofs.record.term_at.Tie as tie
-use Rattle.table.proofs.record.term_at.Reads as reads
-use Rattle.table.proofs.record.term_at.Lts as lts
-use Rattle.number.proofs.record.record_at.Reads as record-at-reads
-use Rattle.table.proofs.record.as_term.Reads as as-term-reads
 
 cast-j : tie.Need-cast-j
 cast-j c = search needs

@@ -1,0 +1,4 @@
+pub mod Room
+pub mod Head
+pub mod Size
+pub mod Compare

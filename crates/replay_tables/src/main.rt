@@ -11,14 +11,24 @@ fn purpose_of(mode: u8) -> Purpose {
     }
 }
 
+fn skip_byte() {
+    let mut one = [0u8; 1];
+    io::read_full(STDIN_FILENO, &mut one);
+}
+
 // Reads so many bytes and forgets them.
 fn skip(count: usize) {
     let mut left = count;
-    let mut one = [0u8; 1];
     while 0 < left {
         left -= 1;
-        io::read_full(STDIN_FILENO, &mut one);
+        skip_byte();
     }
+}
+
+fn next_mode() -> u8 {
+    let mut mode = [0u8; 1];
+    io::read_full(STDIN_FILENO, &mut mode);
+    mode[0]
 }
 
 // The first bytes of the next table, as many as the room has; the others are skipped.
@@ -31,22 +41,21 @@ fn read_table(room: &mut [u8], count: usize) -> usize {
     got
 }
 
-fn replay(room: &mut [u8], work: &mut [u8]) {
+fn replay() {
+    let mut room = [0u8; LONGEST];
+    let mut work = [0u8; table::ROOM];
     let count = show::next_word();
-    let mut mode = [0u8; 1];
-    io::read_full(STDIN_FILENO, &mut mode);
-    let got = read_table(room, count);
-    if got <= room.len() {
-        show::answer(table::test_table(&room[..got], work, purpose_of(mode[0])));
+    let mode = next_mode();
+    let got = read_table(&mut room, count);
+    if got <= LONGEST {
+        show::answer(table::test_table(&room[..got], &mut work, purpose_of(mode)));
     }
 }
 
 fn main() {
-    let mut room = [0u8; LONGEST];
-    let mut work = [0u8; table::ROOM];
     let mut left = show::next_word();
     while 0 < left {
         left -= 1;
-        replay(&mut room, &mut work);
+        replay();
     }
 }

@@ -1,4 +1,5 @@
 // What programs print of the answers, and how they read tables: no logic.
+ghost use Prim.Native.Nat.{_<_};
 use libc::STDIN_FILENO;
 use libc::STDOUT_FILENO;
 use table::Verdict;
@@ -29,7 +30,9 @@ pub fn answer(v: Verdict) {
     }
 }
 
-fn wide(b: u8) -> usize {
+fn wide(b: u8) -> usize
+    ensures { λ r. ⌜ r < 256 ⌝ }
+{
     b as usize
 }
 

@@ -1,0 +1,32 @@
+use native.Mathlib.Omega.{arith}
+use Rattle.replay_tables.proofs.skip.Statement.{statement}
+use Rattle.replay_tables.proofs.skip.Tie as tie
+
+abbrev Inv-loop : tie.InvT-loop
+Inv-loop count left₀ left = Unit {0}
+
+abbrev μ-loop : tie.MeasureT-loop
+μ-loop count left₀ left = left
+
+loop-holds : tie.Need-loop-holds Inv-loop μ-loop
+loop-holds c = tt
+
+sub-left : tie.Need-sub-left Inv-loop μ-loop
+sub-left c = omega arith
+
+skip-byte-requires : tie.Need-skip-byte-requires Inv-loop μ-loop
+skip-byte-requires c κs = tt
+
+loop-less : tie.Need-loop-less Inv-loop μ-loop
+loop-less c = omega arith
+
+loop-again : tie.Need-loop-again Inv-loop μ-loop
+loop-again c = tt
+
+returns : tie.Need-returns Inv-loop μ-loop
+returns c = tt
+
+pub skip-spec : {M : Type 1} → statement M
+skip-spec =
+    tie.close
+    (tie.spec Inv-loop μ-loop loop-holds sub-left skip-byte-requires loop-less loop-again returns)

@@ -26,6 +26,8 @@ fn inspect(path: &[u8], purpose: Purpose) {
     if got == 0 {
         if os::errno() != 0 {
             os::fail(path);
+            libc::close(fd);
+            return;
         }
     }
     libc::close(fd);

@@ -6,13 +6,15 @@ ghost use lib.ListN.{length};
 ghost use Rattle.table.specs.Tests.{tests, Tested};
 
 pub mod above;
-pub mod closed;
+mod closed;
 pub mod form;
+mod forming;
 pub mod header;
-pub mod link;
-pub mod naming;
+mod link;
+mod naming;
+mod opening;
 pub mod record;
-pub mod size;
+mod size;
 
 // What a table is for: document 01's two entries.
 pub enum Purpose {
@@ -40,17 +42,17 @@ fn run_tests(file: &[u8], work: &mut [u8], purpose: Purpose) -> Verdict
     requires { ⌜ 2048 ≤ length (now work) ⌝ }
     ensures { λ r. ⌜ r ≡ tests purpose (now (file .entry)) ⌝ }
 {
-    if !header::well_marked(file) {
+    if !opening::well_marked(file) {
         return Verdict::Refused(2, 0);
     }
-    if !header::well_counted(file) {
+    if !opening::well_counted(file) {
         return Verdict::Refused(3, 0);
     }
-    let formless = form::formless(file);
+    let formless = forming::formless(file);
     if let Guilty::At(i) = formless {
         return Verdict::Refused(4, i);
     }
-    if !header::well_aimed(file, purpose) {
+    if !opening::well_aimed(file, purpose) {
         return Verdict::Refused(5, 0);
     }
     let misled = link::badly_linked(file, work, purpose);

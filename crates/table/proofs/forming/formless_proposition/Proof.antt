@@ -8,8 +8,8 @@ use Rattle.table.specs.File.{propRecord}
 use Rattle.table.specs.Form.{prop-form}
 use Rattle.table.specs.Reading.{first, first-from}
 use Rattle.table.proofs.Firsts.{first-start, first-here, first-past, first-none}
-use Rattle.table.proofs.form.formless_proposition.Statement.{statement}
-use Rattle.table.proofs.form.formless_proposition.Tie as tie
+use Rattle.table.proofs.forming.formless_proposition.Statement.{statement}
+use Rattle.table.proofs.forming.formless_proposition.Tie as tie
 
 abbrev guilty : List ℕ → ℕ → Bool
 guilty l n = not (prop-form (propRecord l n))

@@ -1,6 +1,6 @@
 use borrow.Author.Needs.{needs}
-use Rattle.table.proofs.header.well_aimed.Statement.{statement}
-use Rattle.table.proofs.header.well_aimed.Tie as tie
+use Rattle.table.proofs.opening.well_aimed.Statement.{statement}
+use Rattle.table.proofs.opening.well_aimed.Tie as tie
 
 expected-field-requires : tie.Need-expected-field-requires
 expected-field-requires c κs = search needs

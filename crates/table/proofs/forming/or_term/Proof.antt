@@ -4,8 +4,8 @@ use Rattle.table.specs.declared.Guilty.{Guilty}
 use Rattle.table.specs.Tests.{AtMost}
 use Rattle.table.specs.Tests.{or-term}
 use borrow.Author.Needs.{needs}
-use Rattle.table.proofs.form.or_term.Statement.{statement}
-use Rattle.table.proofs.form.or_term.Tie as tie
+use Rattle.table.proofs.forming.or_term.Statement.{statement}
+use Rattle.table.proofs.forming.or_term.Tie as tie
 
 enum-known-g : tie.Need-enum-known-g
 enum-known-g c = search needs

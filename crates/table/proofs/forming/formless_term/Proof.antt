@@ -8,8 +8,8 @@ use Rattle.table.specs.File.{termRecord}
 use Rattle.table.specs.Form.{term-form}
 use Rattle.table.specs.Reading.{first, first-from}
 use Rattle.table.proofs.Firsts.{first-start, first-here, first-past, first-none}
-use Rattle.table.proofs.form.formless_term.Statement.{statement}
-use Rattle.table.proofs.form.formless_term.Tie as tie
+use Rattle.table.proofs.forming.formless_term.Statement.{statement}
+use Rattle.table.proofs.forming.formless_term.Tie as tie
 
 abbrev guilty : List ℕ → ℕ → Bool
 guilty l t = not (term-form (termRecord l t))

@@ -7,8 +7,8 @@ use lib.Dec.{leb}
 use borrow.Author.Tests.{lt-leb, le-leb}
 use Rattle.table.specs.Tests.{header}
 use borrow.Author.Needs.{needs}
-use Rattle.table.proofs.header.well_marked.Statement.{statement}
-use Rattle.table.proofs.header.well_marked.Tie as tie
+use Rattle.table.proofs.opening.well_marked.Statement.{statement}
+use Rattle.table.proofs.opening.well_marked.Tie as tie
 
 returns : tie.Need-returns
 unfolding header

@@ -2,8 +2,8 @@ use native.Mathlib.Omega.{arith}
 use Rattle.table.specs.Tests.{formless}
 use Rattle.table.proofs.Headers.{first-most}
 use borrow.Author.Needs.{needs}
-use Rattle.table.proofs.form.formless.Statement.{statement}
-use Rattle.table.proofs.form.formless.Tie as tie
+use Rattle.table.proofs.forming.formless.Statement.{statement}
+use Rattle.table.proofs.forming.formless.Tie as tie
 
 proposition-count-requires : tie.Need-proposition-count-requires
 proposition-count-requires c κs = search needs

@@ -1,7 +1,7 @@
 use Rattle.table.specs.Tests.{counts}
 use borrow.Author.Needs.{needs}
-use Rattle.table.proofs.header.well_counted.Statement.{statement}
-use Rattle.table.proofs.header.well_counted.Tie as tie
+use Rattle.table.proofs.opening.well_counted.Statement.{statement}
+use Rattle.table.proofs.opening.well_counted.Tie as tie
 
 proposition-count-requires : tie.Need-proposition-count-requires
 proposition-count-requires c κs = search needs

@@ -1,7 +1,7 @@
 use Rattle.table.specs.Form.{prop-form}
 use borrow.Author.Needs.{needs}
-use Rattle.table.proofs.form.prop_form.Statement.{statement}
-use Rattle.table.proofs.form.prop_form.Tie as tie
+use Rattle.table.proofs.forming.prop_form.Statement.{statement}
+use Rattle.table.proofs.forming.prop_form.Tie as tie
 
 prop-shape-requires : tie.Need-prop-shape-requires
 prop-shape-requires c κs = search needs

@@ -1,7 +1,7 @@
 use Rattle.table.specs.Form.{term-form}
 use borrow.Author.Needs.{needs}
-use Rattle.table.proofs.form.term_form.Statement.{statement}
-use Rattle.table.proofs.form.term_form.Tie as tie
+use Rattle.table.proofs.forming.term_form.Statement.{statement}
+use Rattle.table.proofs.forming.term_form.Tie as tie
 
 term-shape-requires : tie.Need-term-shape-requires
 term-shape-requires c κs = search needs

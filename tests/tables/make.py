@@ -1,7 +1,8 @@
 #!/usr/bin/env python3
-"""Writes the test tables into a folder: tables.bin, answers.txt and index.txt. README.md describes the three.
+"""Writes the test tables where the program that replays them has its input and its output, and an index of them here.
 
-usage: make.py FOLDER
+usage: make.py            writes the three files; README.md describes them
+       make.py --check    only says whether they are as it would write them
 
 Every answer stands in rows/, worked out by hand. Before anything is written each is held against reference.py."""
 import os
@@ -15,6 +16,10 @@ from ndt.script import assemble  # noqa: E402
 from reference import answer  # noqa: E402
 from rows import ROWS  # noqa: E402
 
+PROGRAM = os.path.join(HERE, "..", "..", "crates", "replay_tables")
+STDIN = os.path.join(PROGRAM, "stdin")
+STDOUT = os.path.join(PROGRAM, "stdout")
+INDEX = os.path.join(HERE, "index.txt")
 MODES = {False: "check", True: "filling"}
 
 
@@ -48,23 +53,36 @@ def faults(tables):
             yield "%s: %d rows have this label" % (label, times)
 
 
-def write(folder, name, data):
-    with open(os.path.join(folder, name), "wb") as file:
+def differ(path, data):
+    """Whether the file is missing or holds something else."""
+    try:
+        with open(path, "rb") as file:
+            return file.read() != data
+    except FileNotFoundError:
+        return True
+
+
+def write(path, data):
+    with open(path, "wb") as file:
         file.write(data)
 
 
 def main():
-    if len(sys.argv) != 2:
+    if sys.argv[1:] not in ([], ["--check"]):
         sys.exit(__doc__)
     tables = [assemble(row.script)[0] for row in ROWS]
     found = list(faults(tables))
     if found:
         sys.exit("\n".join(found))
-    folder = sys.argv[1]
-    os.makedirs(folder, exist_ok=True)
-    write(folder, "tables.bin", stream(tables))
-    write(folder, "answers.txt", "".join(row.answer + "\n" for row in ROWS).encode())
-    write(folder, "index.txt", index().encode())
+    answers = "".join(row.answer + "\n" for row in ROWS)
+    files = {STDIN: stream(tables), STDOUT: answers.encode(), INDEX: index().encode()}
+    if sys.argv[1:] == ["--check"]:
+        old = [path for path, data in files.items() if differ(path, data)]
+        if old:
+            sys.exit("not what make.py writes: " + ", ".join(old))
+    else:
+        for path, data in files.items():
+            write(path, data)
     print("%d tables" % len(ROWS))
 
 

@@ -82,8 +82,7 @@ tests p l =
     (unless (counts l) (Refused 3 0)
     (accused 4 (formless l)
     (unless (expected-ok p l) (Refused 5 0)
-    (accused 5 (badly-linked p l)
-    (accused 6 (oversized l)
+    (accused 5 (badly-linked p l) (accused 6 (oversized l)
     (open-goal p l))))))
 
 -- THE ENTRY: a room of at least `test-room` bytes, else refusal 1; those bytes are zeros afterwards

@@ -12,7 +12,7 @@ use Rattle.number.specs.declared.Name.{Name}
 use Rattle.number.specs.declared.Proposition.{Proposition as Number}
 use Rattle.number.specs.declared.record.Record.{Record}
 use Rattle.number.specs.Records.{recordAt}
-use Rattle.rules.specs.Prop.{Prop, const, link, quant, atom, Ty, prop, datatype, same-params, same-link, same-quant, same, same-ty, eq, alpha}
+use Rattle.rules.specs.Prop.{Link, Quant, Prop, const, link, quant, atom, Ty, prop, datatype, same-params, same-link, same-quant, same, same-ty, eq, alpha}
 use Rattle.table.specs.File.{PropKind, constant, linked, quantified, atomic, strange, prop-kind}
 use Rattle.prop.specs.declared.compare.Compared.{Compared}
 use Rattle.prop.specs.declared.compare.Compared.the-variants.{Equal, Alpha, Apart}
@@ -140,6 +140,14 @@ module _ (n : Bool) (tables i j : ℕ) (sub : ℕ → Prop) (r s : Record) where
   abbrev against : PropKind → PropKind → Bool
   against K L = same n (node tables i sub K r) (node tables j sub L s)
 
+  links-as : (l : Link) → against (linked l) (linked l) ≡ (same n (sub (r .a)) (sub (s .a)) && same n (sub (r .b)) (sub (s .b)))
+  unfolding node same
+  links-as l = true-first (same-link l l) _ (link-self l)
+
+  quants-as : (q : Quant) → against (quantified q) (quantified q) ≡ ((not n || eqb (r .a) (s .a)) && (eqb (r .b) (s .b) && same n (sub (r .c)) (sub (s .c))))
+  unfolding node same
+  quants-as q = true-first (same-quant q q) _ (quant-self q)
+
   atoms-as : against atomic atomic ≡ (eqb (r .a) (s .a) && same-params (params r) (params s))
   unfolding node same
   atoms-as = refl
@@ -222,8 +230,7 @@ module _ (w : List ℕ) (c a b : ℕ) (ok : Arena w c) (ac : a < c) (bc : b < c)
 
         by-parts : (n : Bool) (tables : ℕ)
             → same n (roomAt tables w a) (roomAt tables w b) ≡ (same n (roomAt tables w (r .a)) (roomAt tables w (s .a)) && same n (roomAt tables w (r .b)) (roomAt tables w (s .b)))
-        unfolding node same
-        by-parts n tables = let v = kind-linked (r .kind) lo hi in laid-same (linked (v .0)) (v .1) n tables ∙ true-first _ _ (link-self (v .0))
+        by-parts n tables = let v = kind-linked (r .kind) lo hi in laid-same (linked (v .0)) (v .1) n tables ∙ links-as n tables a b (roomAt tables w) r s (v .0)
 
         answer-parts : (tables : ℕ) → answer tables a b ≡ both (answer tables (r .a) (s .a)) (answer tables (r .b) (s .b))
         answer-parts tables =
@@ -245,8 +252,7 @@ module _ (w : List ℕ) (c a b : ℕ) (ok : Arena w c) (ac : a < c) (bc : b < c)
         by-body : (n : Bool) (tables : ℕ)
             → same n (roomAt tables w a) (roomAt tables w b)
             ≡ ((not n || eqb (r .a) (s .a)) && (eqb (r .b) (s .b) && same n (roomAt tables w (r .c)) (roomAt tables w (s .c))))
-        unfolding node same
-        by-body n tables = let v = kind-quantified (r .kind) lo hi in laid-same (quantified (v .0)) (v .1) n tables ∙ true-first _ _ (quant-self (v .0))
+        by-body n tables = let v = kind-quantified (r .kind) lo hi in laid-same (quantified (v .0)) (v .1) n tables ∙ quants-as n tables a b (roomAt tables w) r s (v .0)
 
         answer-body : (tables : ℕ)
             → answer tables a b ≡ both (compared (eqb (r .a) (s .a) && eqb (r .b) (s .b)) (eqb (r .b) (s .b))) (answer tables (r .c) (s .c))

@@ -30,7 +30,7 @@ use Rattle.table.specs.Links.{prop-children, prop-links, hits}
 use Rattle.table.specs.Reading.{parent, binders, settled, propAt}
 use Rattle.table.specs.Nearest.{nearer, nearest, marked, Above, param-of, Vacant, Noted, ChildrenFit, ChildrenNoted}
 use Rattle.table.specs.Closed.{closed-params}
-use Rattle.table.specs.Tests.{open-goal}
+use Rattle.table.specs.Tests.{open-goal, test-room}
 use Rattle.table.specs.Passing.{Counted, Formed, Linked, WellLinked}
 use Rattle.table.proofs.Sums.{hit-here, hit-later, hit-either, hit-not}
 use Rattle.table.proofs.Strange.{Nots, past}
@@ -184,7 +184,7 @@ module _ {l : List ℕ} (h : WellLinked l) where
       abbrev children : List ℕ
       children = prop-links (propRecord l (n - 1))
 
-      pub descent-fits : (p : ℕ) (room : List ℕ) → Counted l → Vacant p room old → 2048 ≤ length room → ChildrenFit r (n - 1) w
+      pub descent-fits : (p : ℕ) (room : List ℕ) → Counted l → Vacant p room old → test-room ≤ length room → ChildrenFit r (n - 1) w
       descent-fits p room c empty long =
           subst⁻¹ (λ r. ChildrenFit r (n - 1) w) e
           record { self = omega arith; child = λ m x. omega (arith, child-below (h .linked) (n - 1) m (omega arith) x) }

@@ -85,9 +85,10 @@ tests p l =
     (accused 5 (badly-linked p l) (accused 6 (oversized l)
     (open-goal p l))))))
 
--- THE ENTRY: a room of at least `test-room` bytes, else refusal 1; those bytes are zeros afterwards
+-- THE ENTRY: a room of at least `test-room` bytes, two for each proposition that a table may have, else refusal 1; those bytes are zeros
+-- afterwards
 abbrev pub test-room : ℕ
-test-room = 2048
+test-room = 2 * most-propositions
 
 pub record Tested (p : Purpose) (l work left : List ℕ) (v : Verdict) : Type 0 where
   pub verdict : v ≡ unless (leb test-room (length work)) (Refused 1 0) (tests p l)

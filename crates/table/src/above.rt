@@ -3,6 +3,7 @@ ghost use mathlib.Core.Path.{_≡_};
 ghost use mathlib.Core.Bool.{true};
 ghost use Prim.Native.Nat.{_+_, _*_, _<_, _≤_};
 ghost use lib.ListN.{length};
+ghost use Rattle.table.specs.Tests.{«test-room»};
 ghost use Rattle.table.specs.File.{props};
 ghost use Rattle.table.specs.Reading.{binders, settled};
 ghost use Rattle.table.specs.Nearest.{Above, ChildrenFit, ChildrenNoted, Noted, Vacant, «param-of»};
@@ -60,7 +61,7 @@ fn note_children(work: &mut [u8], r: Record, n: u16)
 pub fn find_above(file: &[u8], work: &mut [u8])
     requires { ⌜ Counted (now file) ⌝ }
     requires { ⌜ WellLinked (now file) ⌝ }
-    requires { ⌜ 2048 ≤ length (now work) ⌝ }
+    requires { ⌜ «test-room» ≤ length (now work) ⌝ }
     ensures { λ _. ⌜ Above (now (file .entry)) (now (work .exit)) ⌝ }
 {
     let p = proposition_count(file);
@@ -78,7 +79,7 @@ pub fn settle(file: &[u8], work: &[u8], n: Proposition, x: Name) -> Settled
     requires { ⌜ Counted (now file) ⌝ }
     requires { ⌜ WellLinked (now file) ⌝ }
     requires { ⌜ Above (now file) (now work) ⌝ }
-    requires { ⌜ (n .0 < props (now file)) × (2048 ≤ length (now work)) ⌝ }
+    requires { ⌜ (n .0 < props (now file)) × («test-room» ≤ length (now work)) ⌝ }
     ensures { λ r. ⌜ «param-of» (x .0) r ≡ settled (x .0) 0 (binders (now (file .entry)) (n .0)) ⌝ }
 {
     let mut k: u16 = 0;

@@ -9,7 +9,7 @@ ghost use Rattle.table.specs.File.{props};
 ghost use Rattle.table.specs.Nearest.{Above};
 ghost use Rattle.table.specs.Passing.{Counted, Formed, Linked, WellLinked};
 ghost use Rattle.table.specs.Reading.{binders, settled, propAt};
-ghost use Rattle.table.specs.Tests.{«open-goal»};
+ghost use Rattle.table.specs.Tests.{«open-goal», «test-room»};
 use super::Purpose;
 use super::Verdict;
 use super::above::Settled;
@@ -27,7 +27,7 @@ fn is_bound(file: &[u8], work: &[u8], n: Proposition, used: bool, x: u16) -> boo
     requires { ⌜ Counted (now file) ⌝ }
     requires { ⌜ WellLinked (now file) ⌝ }
     requires { ⌜ Above (now file) (now work) ⌝ }
-    requires { ⌜ (n .0 < props (now file)) × (2048 ≤ length (now work)) ⌝ }
+    requires { ⌜ (n .0 < props (now file)) × («test-room» ≤ length (now work)) ⌝ }
     ensures { λ r. ⌜ r ≡ (not used || «named-not» (settled x 0 (binders (now (file .entry)) (n .0)))) ⌝ }
 {
     if used {
@@ -46,7 +46,7 @@ fn all_bound(file: &[u8], work: &[u8], n: Proposition, r: Record) -> bool
     requires { ⌜ Counted (now file) ⌝ }
     requires { ⌜ WellLinked (now file) ⌝ }
     requires { ⌜ Above (now file) (now work) ⌝ }
-    requires { ⌜ (n .0 < props (now file)) × (2048 ≤ length (now work)) ⌝ }
+    requires { ⌜ (n .0 < props (now file)) × («test-room» ≤ length (now work)) ⌝ }
     ensures { λ ok. ⌜ ok ≡ «closed-params» (now (file .entry)) (n .0) r ⌝ }
 {
     let k = r.count;
@@ -63,7 +63,7 @@ fn is_closed(file: &[u8], work: &[u8], n: Proposition) -> bool
     requires { ⌜ Formed (now file) ⌝ }
     requires { ⌜ WellLinked (now file) ⌝ }
     requires { ⌜ Above (now file) (now work) ⌝ }
-    requires { ⌜ (n .0 < props (now file)) × (2048 ≤ length (now work)) ⌝ }
+    requires { ⌜ (n .0 < props (now file)) × («test-room» ≤ length (now work)) ⌝ }
     ensures { λ r. ⌜ r ≡ closed (propAt (now (file .entry)) (n .0)) ⌝ }
 {
     let r = proposition_at(file, n);
@@ -84,7 +84,7 @@ pub fn open_goal(file: &[u8], work: &mut [u8], purpose: Purpose) -> Verdict
     requires { ⌜ Counted (now file) ⌝ }
     requires { ⌜ Formed (now file) ⌝ }
     requires { ⌜ Linked purpose (now file) ⌝ }
-    requires { ⌜ 2048 ≤ length (now work) ⌝ }
+    requires { ⌜ «test-room» ≤ length (now work) ⌝ }
     ensures { λ r. ⌜ r ≡ «open-goal» purpose (now (file .entry)) ⌝ }
 {
     match purpose {

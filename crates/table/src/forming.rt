@@ -3,6 +3,7 @@ ghost use mathlib.Core.Path.{_≡_};
 ghost use mathlib.Core.Bool.{not};
 ghost use Prim.Native.Nat.{ℕ, _+_, _*_, _≤_};
 ghost use lib.ListN.{length};
+ghost use Rattle.number.specs.Limits.{«most-propositions», «most-terms»};
 ghost use Rattle.table.specs.File.{props, propRecord, termRecord};
 ghost use Rattle.table.specs.Form.{fits, «prop-form», «term-form»};
 ghost use Rattle.table.specs.Reading.{first};
@@ -83,8 +84,8 @@ fn formless_term(file: &[u8], p: u16, count: u16) -> Guilty
 
 // The lowest guilty record: a proposition, or else a term, whose place counts the p propositions before it.
 pub fn or_term(g: Guilty, p: u16, h: Guilty) -> Guilty
-    requires { ⌜ p ≤ 1024 ⌝ }
-    requires { ⌜ AtMost 512 h ⌝ }
+    requires { ⌜ p ≤ «most-propositions» ⌝ }
+    requires { ⌜ AtMost «most-terms» h ⌝ }
     ensures { λ r. ⌜ r ≡ «or-term» g p h ⌝ }
 {
     match g {

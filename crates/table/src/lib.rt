@@ -3,7 +3,7 @@
 ghost use mathlib.Core.Path.{_≡_};
 ghost use Prim.Native.Nat.{_≤_};
 ghost use lib.ListN.{length};
-ghost use Rattle.table.specs.Tests.{tests, Tested};
+ghost use Rattle.table.specs.Tests.{tests, Tested, «test-room»};
 
 pub mod above;
 mod closed;
@@ -15,6 +15,8 @@ mod naming;
 mod opening;
 pub mod record;
 mod size;
+
+use number::Proposition;
 
 // What a table is for: document 01's two entries.
 pub enum Purpose {
@@ -35,11 +37,11 @@ pub enum Verdict {
 }
 
 // The bytes of the work room that the tests use: two for each proposition that a table may have.
-pub const ROOM: usize = 2048;
+pub const ROOM: usize = 2 * (Proposition::LIMIT as usize);
 
 // The verdict of the tests. The room is as long as the tests want it, and what they leave there is not settled.
 fn run_tests(file: &[u8], work: &mut [u8], purpose: Purpose) -> Verdict
-    requires { ⌜ 2048 ≤ length (now work) ⌝ }
+    requires { ⌜ «test-room» ≤ length (now work) ⌝ }
     ensures { λ r. ⌜ r ≡ tests purpose (now (file .entry)) ⌝ }
 {
     if !opening::well_marked(file) {

@@ -8,7 +8,7 @@ ghost use Rattle.table.specs.File.{props, terms};
 ghost use Rattle.table.specs.Links.{«all-links», annotation, «prop-links», «term-links», «prop-links-ok», «term-links-ok»};
 ghost use Rattle.table.specs.Passing.{Counted};
 ghost use Rattle.table.specs.Reading.{first};
-ghost use Rattle.table.specs.Tests.{«badly-linked»};
+ghost use Rattle.table.specs.Tests.{«badly-linked», «test-room»};
 use super::Guilty;
 use super::Purpose;
 use super::form::prop_shape;
@@ -97,7 +97,7 @@ fn badly_linked_term(file: &[u8], work: &[u8], p: u16, count: u16) -> Guilty
 
 pub fn badly_linked(file: &[u8], work: &mut [u8], purpose: Purpose) -> Guilty
     requires { ⌜ Counted (now file) ⌝ }
-    requires { ⌜ 1536 ≤ length (now work) ⌝ }
+    requires { ⌜ «test-room» ≤ length (now work) ⌝ }
     ensures { λ r. ⌜ r ≡ «badly-linked» purpose (now (file .entry)) ⌝ }
 {
     let p = proposition_count(file);

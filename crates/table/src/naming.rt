@@ -3,6 +3,8 @@
 ghost use mathlib.Core.Path.{_≡_};
 ghost use Prim.Native.Nat.{ℕ, _+_, _*_, _<_, _≤_, min};
 ghost use lib.ListN.{length, getD, set};
+ghost use Rattle.number.specs.Limits.{«most-propositions»};
+ghost use Rattle.table.specs.Tests.{«test-room»};
 ghost use Rattle.table.specs.File.{props, terms, propRecord, termRecord};
 ghost use Rattle.table.specs.Links.{hits, sum, annotation, «prop-links», «term-links»};
 ghost use Rattle.table.specs.Naming.{Names, «used-hits», NamesShown};
@@ -35,7 +37,7 @@ fn note(work: &mut [u8], i: usize)
 
 // A link, if it is used, names the record of its number, if there are so many.
 fn name(work: &mut [u8], used: bool, base: usize, bound: u16, m: u16)
-    requires { ⌜ (base + bound ≤ length (now work)) × (base ≤ 1024) ⌝ }
+    requires { ⌜ (base + bound ≤ length (now work)) × (base ≤ «most-propositions») ⌝ }
     ensures { λ _. ⌜ Names base bound («used-hits» used m) (now (work .entry)) (now (work .exit)) ⌝ }
 {
     if used {
@@ -56,7 +58,7 @@ fn name_children(work: &mut [u8], p: u16, r: Record)
 }
 
 fn name_subterms(work: &mut [u8], p: u16, count: u16, r: TermRecord)
-    requires { ⌜ (p + count ≤ length (now work)) × (p ≤ 1024) ⌝ }
+    requires { ⌜ (p + count ≤ length (now work)) × (p ≤ «most-propositions») ⌝ }
     ensures { λ _. ⌜ Names p count (λ j. hits j («term-links» r)) (now (work .entry)) (now (work .exit)) ⌝ }
 {
     let s = term_shape(r.kind);
@@ -91,7 +93,7 @@ fn by_annotations(file: &[u8], work: &mut [u8], p: u16, count: u16)
 }
 
 fn by_terms(file: &[u8], work: &mut [u8], p: u16, count: u16)
-    requires { ⌜ (p ≡ props (now file)) × (16 + (16 * p + 16 * count) ≤ length (now file)) × (p + count ≤ length (now work)) × (p ≤ 1024) ⌝ }
+    requires { ⌜ (p ≡ props (now file)) × (16 + (16 * p + 16 * count) ≤ length (now file)) × (p + count ≤ length (now work)) × (p ≤ «most-propositions») ⌝ }
     ensures { λ _. ⌜ Names p count (λ j. sum (λ t. hits j («term-links» (termRecord (now (file .entry)) t))) count) (now (work .entry)) (now (work .exit)) ⌝ }
 {
     let mut t: u16 = 0;
@@ -117,7 +119,7 @@ fn by_header(file: &[u8], work: &mut [u8], p: u16, purpose: Purpose)
 // Every count, in a room of any contents.
 pub fn count_names(file: &[u8], work: &mut [u8], purpose: Purpose)
     requires { ⌜ Counted (now file) ⌝ }
-    requires { ⌜ 1536 ≤ length (now work) ⌝ }
+    requires { ⌜ «test-room» ≤ length (now work) ⌝ }
     ensures { λ _. ⌜ NamesShown purpose (now (file .entry)) (now (work .exit)) ⌝ }
 {
     let p = proposition_count(file);

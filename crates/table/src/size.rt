@@ -9,7 +9,7 @@ ghost use Rattle.table.specs.Passing.{Counted, WellLinked};
 ghost use Rattle.table.specs.Reading.{first};
 ghost use Rattle.table.specs.Size.{«too-high», «too-deep»};
 ghost use Rattle.table.specs.Sizing.{heightOf, ChildrenHigh, Within, Deepened};
-ghost use Rattle.table.specs.Tests.{oversized};
+ghost use Rattle.table.specs.Tests.{oversized, «test-room»};
 use super::Guilty;
 use super::form::prop_shape;
 use super::form::term_shape;
@@ -111,7 +111,7 @@ fn too_deep(file: &[u8], work: &mut [u8], p: u16, count: u16) -> Guilty
 pub fn oversized(file: &[u8], work: &mut [u8]) -> Guilty
     requires { ⌜ Counted (now file) ⌝ }
     requires { ⌜ WellLinked (now file) ⌝ }
-    requires { ⌜ 2048 ≤ length (now work) ⌝ }
+    requires { ⌜ «test-room» ≤ length (now work) ⌝ }
     ensures { λ r. ⌜ r ≡ oversized (now (file .entry)) ⌝ }
 {
     let p = proposition_count(file);

@@ -1,3 +1,4 @@
+use Rattle.table.specs.Tests.{test-room}
 use mathlib.Core.Path.{sym, _∙_}
 use native.Mathlib.Omega.{arith}
 use lib.Seq.{length-take-le}
@@ -19,10 +20,10 @@ slice-relend-prefix-run-tests : tie.Need-slice-relend-prefix-run-tests
 slice-relend-prefix-run-tests c = search needs
 
 slice-aggregate-run-tests : tie.Need-slice-aggregate-run-tests
-slice-aggregate-run-tests c = sym (length-take-le 2048 (c .before .before .before .before .args .work .now) (c .before .if1 .left))
+slice-aggregate-run-tests c = sym (length-take-le test-room (c .before .before .before .before .args .work .now) (c .before .if1 .left))
 
 run-tests-requires : tie.Need-run-tests-requires
-run-tests-requires c κs = omega (arith, length-take-le 2048 (c .before .before .before .before .args .work .now) (c .before .if1 .left))
+run-tests-requires c κs = omega (arith, length-take-le test-room (c .before .before .before .before .args .work .now) (c .before .if1 .left))
 
 clear-requires-2 : tie.Need-clear-requires-2
 clear-requires-2 c κs = search needs
@@ -35,7 +36,7 @@ returns-2 c =
     let a = c .before .before .before .before .before .before .before .before .before .before .before .args in
     let r = c .before .before .before .before .before .before .run-tests in
     tested-long (a .purpose) (a .file .now) (a .work .now) (r .last .1 .0) _ (r .result) (c .before .before .before .before .before .before .before .before .if1 .left) (r .ensures)
-    (r .kept .1 .0 ∙ length-take-le 2048 (a .work .now) (c .before .before .before .before .before .before .before .before .if1 .left))
+    (r .kept .1 .0 ∙ length-take-le test-room (a .work .now) (c .before .before .before .before .before .before .before .before .if1 .left))
     (c .before .before .clear2 .ensures)
 
 pub test-table-spec : {M : Type 1} → statement M

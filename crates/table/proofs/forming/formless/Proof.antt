@@ -1,3 +1,4 @@
+use Rattle.number.specs.Limits.{most-terms}
 use native.Mathlib.Omega.{arith}
 use Rattle.table.specs.Tests.{formless}
 use Rattle.table.proofs.Headers.{first-most}
@@ -19,7 +20,7 @@ formless-term-requires c κs = search needs
 
 or-term-requires : tie.Need-or-term-requires
 or-term-requires c κs =
-    (search needs, first-most _ _ 512 _ (c .formless-term .ensures) (omega arith))
+    (search needs, first-most _ _ most-terms _ (c .formless-term .ensures) (omega arith))
 
 returns : tie.Need-returns
 unfolding formless

@@ -1,3 +1,4 @@
+use Rattle.number.specs.Limits.{most-terms}
 use mathlib.Core.Path.{subst}
 use native.Mathlib.Omega.{arith}
 use Rattle.table.specs.declared.Guilty.{Guilty}
@@ -17,7 +18,7 @@ enum-known-h : tie.Need-enum-known-h
 enum-known-h c = search needs
 
 add-t8 : tie.Need-add-t8
-add-t8 c = omega (arith, subst (λ (g : Guilty). AtMost 512 g) (c .before .h .given .1) (c .before .before .before .before .before .pre .1))
+add-t8 c = omega (arith, subst (λ (g : Guilty). AtMost most-terms g) (c .before .h .given .1) (c .before .before .before .before .before .pre .1))
 
 enum-told-2 : tie.Need-enum-told-2
 enum-told-2 c = search needs

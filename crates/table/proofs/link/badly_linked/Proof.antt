@@ -1,3 +1,4 @@
+use Rattle.number.specs.Limits.{most-terms}
 use mathlib.Core.Path.{_∙_}
 use native.Mathlib.Omega.{arith}
 use Rattle.table.proofs.Headers.{first-most}
@@ -22,7 +23,7 @@ badly-linked-term-requires : tie.Need-badly-linked-term-requires
 badly-linked-term-requires c κs = search needs
 
 or-term-requires : tie.Need-or-term-requires
-or-term-requires c κs = (search needs, first-most _ _ 512 _ (c .badly-linked-term .ensures) (omega arith))
+or-term-requires c κs = (search needs, first-most _ _ most-terms _ (c .badly-linked-term .ensures) (omega arith))
 
 same-length : tie.Need-same-length
 same-length c = search needs

@@ -1,3 +1,4 @@
+use Rattle.number.specs.Limits.{most-terms}
 use native.Mathlib.Omega.{arith}
 use Rattle.table.specs.Tests.{oversized}
 use Rattle.table.proofs.Headers.{first-most}
@@ -18,7 +19,7 @@ too-deep-requires : tie.Need-too-deep-requires
 too-deep-requires c κs = search needs
 
 or-term-requires : tie.Need-or-term-requires
-or-term-requires c κs = (search needs, first-most _ _ 512 _ (c .before .before .too-deep .ensures) (omega arith))
+or-term-requires c κs = (search needs, first-most _ _ most-terms _ (c .before .before .too-deep .ensures) (omega arith))
 
 same-length : tie.Need-same-length
 same-length c = search needs

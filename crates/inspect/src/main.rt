@@ -8,9 +8,9 @@ use table::Verdict;
 fn counts(file: &[u8]) {
     if 16 <= file.len() {
         show::text(b"propositions ");
-        show::number(table::header::proposition_count(file) as u64);
+        show::number(layout::header::proposition_count(file) as u64);
         show::text(b" terms ");
-        show::number(table::header::term_count(file) as u64);
+        show::number(layout::header::term_count(file) as u64);
         show::text(b"\n");
     }
 }

@@ -13,7 +13,7 @@ use Rattle.number.specs.declared.Proposition.{Proposition as Number}
 use Rattle.number.specs.declared.record.Record.{Record}
 use Rattle.number.specs.Records.{recordAt}
 use Rattle.rules.specs.Prop.{Link, Quant, Prop, const, link, quant, atom, Ty, prop, datatype, same-params, same-link, same-quant, same, same-ty, eq, alpha}
-use Rattle.table.specs.File.{PropKind, constant, linked, quantified, atomic, strange, prop-kind}
+use Rattle.layout.specs.File.{PropKind, constant, linked, quantified, atomic, strange, prop-kind}
 use Rattle.prop.specs.declared.compare.Compared.{Compared}
 use Rattle.prop.specs.declared.compare.Compared.the-variants.{Equal, Alpha, Apart}
 use Rattle.prop.specs.Room.{params, node, roomAt, typeAt, TypeIn, room-form, Arena}

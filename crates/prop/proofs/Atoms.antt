@@ -12,8 +12,8 @@ use lib.Dec.{eqb, ltb, leb}
 use borrow.Author.Tests.{eqb-true, eq-eqb, ltb-true, ltb-false, le-ltb, leb-true}
 use Rattle.number.specs.declared.record.Record.{Record}
 use Rattle.rules.specs.Prop.{Param, free, ser, bound, same-param, same-params}
-use Rattle.table.specs.File.{PropKind, atomic, prop-kind}
-use Rattle.table.specs.Form.{fits, prop-shape, in-prop-shape, prop-form}
+use Rattle.layout.specs.File.{PropKind, atomic, prop-kind}
+use Rattle.layout.specs.Form.{fits, prop-shape, in-prop-shape, prop-form}
 use Rattle.prop.specs.Room.{param, kind-0, kind-1, kind-2, kind-3, params, kinds-fit, without-kinds, form-as, room-form}
 use Rattle.prop.specs.Compare.{same-fields}
 

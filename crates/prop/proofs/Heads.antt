@@ -9,7 +9,7 @@ use Rattle.number.specs.declared.record.Record.{Record}
 use Rattle.number.specs.Records.{recordAt}
 use Rattle.rules.specs.Prop.{Link, and, or, imp, Quant, all, ex, Origin, made, Prop, const, link, quant, atom, prop, same-link, same-quant, same}
 use Rattle.rules.specs.Step.{Arity, Prog, on-link, on-quant}
-use Rattle.table.specs.File.{PropKind, constant, linked, quantified, atomic, strange, prop-kind, prop-kinds}
+use Rattle.layout.specs.File.{PropKind, constant, linked, quantified, atomic, strange, prop-kind, prop-kinds}
 use Rattle.prop.specs.Room.{node, roomAt, Arena}
 use Rattle.prop.specs.Head.{is-link, is-quant, Joins, Binds}
 use Rattle.prop.proofs.Rooms.{parts-under, body-under, not-strange, room-step}

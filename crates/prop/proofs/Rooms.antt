@@ -14,10 +14,10 @@ use Rattle.number.specs.declared.Type.the-variants.{Proposition, Datatype}
 use Rattle.number.specs.declared.record.Record.{Record}
 use Rattle.number.specs.Records.{recordAt, Put, Same}
 use Rattle.rules.specs.Prop.{Link, Quant, Prop, link, quant, prop}
-use Rattle.table.specs.File.{PropKind, constant, linked, quantified, atomic, strange, prop-kind}
-use Rattle.table.specs.Form.{prop-shape}
+use Rattle.layout.specs.File.{PropKind, constant, linked, quantified, atomic, strange, prop-kind}
+use Rattle.layout.specs.Form.{prop-shape}
 use Rattle.table.specs.Links.{all-links, prop-children, prop-links, hits}
-use Rattle.table.proofs.Strange.{strange-prop}
+use Rattle.layout.proofs.Strange.{strange-prop}
 use Rattle.table.proofs.Sums.{hit-here, hit-later, hit-ok}
 use Rattle.prop.specs.Room.{origin, node, room-within, roomAt, typeAt, TypeIn, form-as, room-form, Node, Arena}
 

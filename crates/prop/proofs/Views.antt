@@ -7,7 +7,7 @@ use native.Mathlib.Omega.{arith}
 use Rattle.number.specs.declared.record.Record.{Record}
 use Rattle.number.specs.Records.{recordAt}
 use Rattle.rules.specs.Prop.{Link, and, or, imp, Quant, all, ex, Prop, const, atom}
-use Rattle.table.specs.File.{PropKind, constant, linked, quantified, atomic, prop-kind, prop-kinds}
+use Rattle.layout.specs.File.{PropKind, constant, linked, quantified, atomic, prop-kind, prop-kinds}
 use Rattle.prop.specs.Room.{params, origin, node, roomAt, Arena}
 use Rattle.prop.specs.Head.{Joins, Binds}
 use Rattle.prop.proofs.Rooms.{kind-known, room-step}

@@ -12,8 +12,8 @@ use Rattle.number.specs.declared.Type.the-variants.{Proposition, Datatype}
 use Rattle.number.specs.declared.record.Record.{Record}
 use Rattle.number.specs.Records.{recordAt}
 use Rattle.rules.specs.Prop.{Param, free, ser, bound, Origin, table, made, Prop, const, link, quant, atom, Ty, prop, datatype}
-use Rattle.table.specs.File.{PropKind, constant, linked, quantified, atomic, strange, prop-kind}
-use Rattle.table.specs.Form.{prop-form}
+use Rattle.layout.specs.File.{PropKind, constant, linked, quantified, atomic, strange, prop-kind}
+use Rattle.layout.specs.Form.{prop-form}
 use Rattle.table.specs.Links.{all-links, prop-links}
 
 -- PARAMETERS: kinds 0 free name, 1 serial, 2 bound, two bits each, the first lowest

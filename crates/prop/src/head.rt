@@ -3,7 +3,7 @@ ghost use mathlib.Core.Path.{_≡_};
 ghost use mathlib.Core.Bool.{true};
 ghost use Prim.Native.Nat.{ℕ, _<_};
 ghost use Rattle.rules.specs.Prop.{Link, and, or, imp, Quant, all, ex, const, made, same};
-ghost use Rattle.table.specs.File.{linked, quantified, «prop-kind»};
+ghost use Rattle.layout.specs.File.{linked, quantified, «prop-kind»};
 ghost use Rattle.prop.specs.Room.{roomAt, Arena};
 ghost use Rattle.prop.specs.Head.{PartsIs, QuantifiedIs};
 use super::node::AND;

@@ -1,4 +1,4 @@
-// Floor 3: propositions in their room. The table's records come first, then the made ones; a record's children have smaller numbers, and what a
+// Floor 4: propositions in their room. The table's records come first, then the made ones; a record's children have smaller numbers, and what a
 // number stands for never changes.
 
 pub mod compare;

@@ -23,9 +23,9 @@ use Rattle.table.specs.declared.above.Settled.{Settled}
 use Rattle.table.specs.declared.above.Settled.the-variants.{Free, Bound}
 use Rattle.table.specs.declared.Guilty.{Guilty}
 use Rattle.table.specs.declared.Guilty.the-variants.{At, Nobody}
-use Rattle.table.specs.declared.form.PropShape.{PropShape}
-use Rattle.table.specs.File.{props, expected, propRecord, PropKind, constant, linked, quantified, atomic, strange, prop-kind}
-use Rattle.table.specs.Form.{prop-shape}
+use Rattle.layout.specs.declared.form.PropShape.{PropShape}
+use Rattle.layout.specs.File.{props, expected, propRecord, PropKind, constant, linked, quantified, atomic, strange, prop-kind}
+use Rattle.layout.specs.Form.{prop-shape}
 use Rattle.table.specs.Links.{prop-children, prop-links, hits}
 use Rattle.table.specs.Reading.{parent, binders, settled, propAt}
 use Rattle.table.specs.Nearest.{nearer, nearest, marked, Above, param-of, Vacant, Noted, ChildrenFit, ChildrenNoted}
@@ -33,7 +33,7 @@ use Rattle.table.specs.Closed.{closed-params}
 use Rattle.table.specs.Tests.{open-goal, test-room}
 use Rattle.table.specs.Passing.{Counted, Formed, Linked, WellLinked}
 use Rattle.table.proofs.Sums.{hit-here, hit-later, hit-either, hit-not}
-use Rattle.table.proofs.Strange.{Nots, past}
+use Rattle.layout.proofs.Strange.{Nots, past}
 use Rattle.table.proofs.Links.{child-below, parent-above, expected-in}
 use Rattle.table.proofs.Reading.{nearest-child, nearest-root, binders-none, binders-at}
 use Rattle.table.proofs.Sizes.{closed-none, closed-one, closed-two}

@@ -13,7 +13,7 @@ use borrow.Author.Tests.{ltb-true, ltb-false, eqb-true, eqb-false, eq-eqb, ne-eq
 use Rattle.rules.specs.Prop.{Ty}
 use Rattle.rules.specs.Term.{Term, leaf, single, double, triple, sorry, gaps}
 use Rattle.table.specs.declared.Purpose.{Purpose}
-use Rattle.table.specs.File.{terms, termRecord, Kind, Ident, Pair, ProjectFst, ProjectSnd, Function, Application, LetIn, OrLeft, OrRight, Case, Abort, TheUnit, TypeAscription, Sorry, Strange, kind-of}
+use Rattle.layout.specs.File.{terms, termRecord, Kind, Ident, Pair, ProjectFst, ProjectSnd, Function, Application, LetIn, OrLeft, OrRight, Case, Abort, TheUnit, TypeAscription, Sorry, Strange, kind-of}
 use Rattle.table.specs.Links.{term-links, hits, sum}
 use Rattle.table.specs.Reading.{termAt}
 use Rattle.table.specs.Passing.{Formed, Linked}

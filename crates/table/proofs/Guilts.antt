@@ -9,12 +9,12 @@ use native.Mathlib.Omega.{arith}
 use borrow.Author.Tests.{eqb-true, eq-eqb, ne-eqb, eqb-false, lt-ltb}
 use lib.Dec.{eqb, ltb}
 use Rattle.number.specs.declared.record.Record.{Record}
-use Rattle.table.specs.declared.record.TermRecord.{TermRecord}
+use Rattle.layout.specs.declared.record.TermRecord.{TermRecord}
 use Rattle.table.specs.declared.Purpose.{Purpose}
 use Rattle.number.specs.Records.{recordAt}
 use Rattle.table.specs.declared.Guilty.{Guilty}
 use Rattle.table.specs.declared.Guilty.the-variants.{At}
-use Rattle.table.specs.File.{props, terms, asTerm, termRecord}
+use Rattle.layout.specs.File.{props, terms, asTerm, termRecord}
 use Rattle.table.specs.Naming.{NamesShown}
 use Rattle.table.specs.Tests.{or-term, badly-linked}
 use Rattle.table.specs.Reading.{first, first-from}

@@ -9,7 +9,7 @@ use lib.ListN.{length}
 use lib.Dec.{leb, eqb}
 use Rattle.number.specs.Limits.{most-propositions, most-terms}
 use Rattle.number.specs.Records.{wordAt}
-use Rattle.table.specs.File.{props, terms}
+use Rattle.layout.specs.File.{props, terms}
 use Rattle.table.specs.Tests.{mark, blank, header, counts, AtMost}
 use Rattle.table.specs.Passing.{Counted}
 use Rattle.table.specs.declared.Guilty.{Guilty}

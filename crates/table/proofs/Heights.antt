@@ -13,11 +13,11 @@ use lib.Seq.{getD-set-same, getD-set-other}
 use lib.Dec.{ltb}
 use Rattle.number.specs.declared.record.Record.{Record}
 use Rattle.number.specs.Limits.{most-height, most-depth}
-use Rattle.table.specs.declared.form.PropShape.{PropShape}
-use Rattle.table.specs.declared.form.TermShape.{TermShape}
-use Rattle.table.specs.declared.record.TermRecord.{TermRecord}
-use Rattle.table.specs.File.{props, terms, propRecord, termRecord, prop-kind, kind-of}
-use Rattle.table.specs.Form.{prop-shape, term-shape}
+use Rattle.layout.specs.declared.form.PropShape.{PropShape}
+use Rattle.layout.specs.declared.form.TermShape.{TermShape}
+use Rattle.layout.specs.declared.record.TermRecord.{TermRecord}
+use Rattle.layout.specs.File.{props, terms, propRecord, termRecord, prop-kind, kind-of}
+use Rattle.layout.specs.Form.{prop-shape, term-shape}
 use Rattle.table.specs.Links.{hits, prop-children, prop-links, term-children, term-links}
 use Rattle.table.specs.Naming.{used-hits}
 use Rattle.table.specs.Passing.{WellLinked}

@@ -13,7 +13,7 @@ use Rattle.table.specs.declared.Purpose.{Purpose}
 use Rattle.table.specs.declared.Purpose.the-variants.{Check}
 use Rattle.table.specs.declared.Guilty.{Guilty}
 use Rattle.table.specs.declared.Guilty.the-variants.{At, Nobody}
-use Rattle.table.specs.File.{props, terms, expected, propRecord, termRecord}
+use Rattle.layout.specs.File.{props, terms, expected, propRecord, termRecord}
 use Rattle.table.specs.Links.{prop-links, term-links, annotation, prop-links-ok, term-links-ok, all-links, hits, sum, prop-named, term-named, badly-linked-prop, badly-linked-term}
 use Rattle.table.specs.Reading.{first, parent}
 use Rattle.table.specs.Size.{holder}

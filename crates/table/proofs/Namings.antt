@@ -10,9 +10,9 @@ use lib.ListN.{length, getD, set, replicate, length-set, length-replicate, getD-
 use lib.Seq.{getD-set-same, getD-set-other}
 use lib.Dec.{eqb, ltb}
 use Rattle.number.specs.declared.record.Record.{Record}
-use Rattle.table.specs.declared.record.TermRecord.{TermRecord}
+use Rattle.layout.specs.declared.record.TermRecord.{TermRecord}
 use Rattle.table.specs.declared.Purpose.{Purpose}
-use Rattle.table.specs.File.{props, terms, propRecord, termRecord}
+use Rattle.layout.specs.File.{props, terms, propRecord, termRecord}
 use Rattle.table.specs.Links.{hits, sum, prop-children, term-children, prop-links, term-links, annotation, annotation-links, heads, prop-named, term-named}
 use Rattle.table.specs.Naming.{Shows, Names, used-hits, NamesShown}
 

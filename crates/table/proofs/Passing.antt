@@ -27,8 +27,8 @@ use Rattle.table.specs.declared.Guilty.{Guilty}
 use Rattle.table.specs.declared.Guilty.the-variants.{At, Nobody}
 use Rattle.table.specs.declared.Verdict.{Verdict}
 use Rattle.table.specs.declared.Verdict.the-variants.{Passes, Refused}
-use Rattle.table.specs.File.{props, terms, expected, propRecord, termRecord, PropKind, constant, linked as linking, quantified, atomic, strange, prop-kind}
-use Rattle.table.specs.Form.{prop-shape, prop-form, term-form}
+use Rattle.layout.specs.File.{props, terms, expected, propRecord, termRecord, PropKind, constant, linked as linking, quantified, atomic, strange, prop-kind}
+use Rattle.layout.specs.Form.{prop-shape, prop-form, term-form}
 use Rattle.table.specs.Links.{prop-children, prop-links, term-links, annotation-links, annotation, hits, expected-ok, badly-linked-prop, badly-linked-term}
 use Rattle.table.specs.Reading.{first, parent, object, binders, settled, prop-of, prop-within, type-of, annotated, propAt, termAt}
 use Rattle.table.specs.Size.{height, too-high, depth, too-deep}

@@ -14,11 +14,11 @@ use Rattle.rules.specs.Term.{Leaf, Single, Double, Triple, Term, leaf, single, 
 use Rattle.table.specs.declared.Purpose.{Purpose}
 use Rattle.table.specs.declared.Guilty.{Guilty}
 use Rattle.table.specs.declared.Guilty.the-variants.{At, Nobody}
-use Rattle.table.specs.declared.record.TermRecord.{TermRecord}
-use Rattle.table.specs.declared.form.PropShape.{PropShape}
-use Rattle.table.specs.declared.form.TermShape.{TermShape}
-use Rattle.table.specs.File.{props, terms, propRecord, termRecord, PropKind, constant, linked, quantified, atomic, strange, prop-kind, Kind, Ident, Pair, ProjectFst, ProjectSnd, Function, Application, LetIn, OrLeft, OrRight, Case, Abort, TheUnit, TypeAscription, Sorry, Strange, kind-of}
-use Rattle.table.specs.Form.{prop-shape, in-prop-shape, prop-form, term-shape, in-term-shape, term-form}
+use Rattle.layout.specs.declared.record.TermRecord.{TermRecord}
+use Rattle.layout.specs.declared.form.PropShape.{PropShape}
+use Rattle.layout.specs.declared.form.TermShape.{TermShape}
+use Rattle.layout.specs.File.{props, terms, propRecord, termRecord, PropKind, constant, linked, quantified, atomic, strange, prop-kind, Kind, Ident, Pair, ProjectFst, ProjectSnd, Function, Application, LetIn, OrLeft, OrRight, Case, Abort, TheUnit, TypeAscription, Sorry, Strange, kind-of}
+use Rattle.layout.specs.Form.{prop-shape, in-prop-shape, prop-form, term-shape, in-term-shape, term-form}
 use Rattle.table.specs.Links.{prop-children, prop-links, term-children, term-links, hits}
 use Rattle.table.specs.Reading.{parent, object, above, binders-within, binders, settled, prop-of, prop-within, propAt, type-of, ascribed, term-of, annotated, term-within, termAt}
 use Rattle.table.specs.Nearest.{nearer, nearest-above, nearest-within, nearest}

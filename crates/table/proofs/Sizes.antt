@@ -9,8 +9,8 @@ use native.Mathlib.Omega.{arith}
 use Rattle.number.specs.declared.record.Record.{Record}
 use Rattle.rules.specs.Prop.{Param, Prop, const, link, quant, atom, each-param, each, named-not, closed}
 use Rattle.table.specs.declared.Purpose.{Purpose}
-use Rattle.table.specs.File.{props, terms, propRecord, termRecord, PropKind, constant, linked, quantified, atomic, strange, prop-kind}
-use Rattle.table.specs.Form.{prop-shape}
+use Rattle.layout.specs.File.{props, terms, propRecord, termRecord, PropKind, constant, linked, quantified, atomic, strange, prop-kind}
+use Rattle.layout.specs.Form.{prop-shape}
 use Rattle.table.specs.Links.{term-links, hits}
 use Rattle.table.specs.Reading.{binders, settled, prop-of, propAt}
 use Rattle.table.specs.Size.{height, holder, below, depth-within, depth}

@@ -1,5 +1,3 @@
-pub mod File
-pub mod Form
 pub mod Links
 pub mod Naming
 pub mod Reading

@@ -6,11 +6,11 @@ use Prim.Native.Nat.{ℕ, zero, suc, _+_}
 use lib.Dec.{eqb, ltb}
 use Rattle.number.specs.declared.record.Record.{Record}
 use Rattle.number.specs.Limits.{none}
-use Rattle.table.specs.declared.record.TermRecord.{TermRecord}
+use Rattle.layout.specs.declared.record.TermRecord.{TermRecord}
 use Rattle.table.specs.declared.Purpose.{Purpose}
 use Rattle.table.specs.declared.Purpose.the-variants.{Check, Filling}
-use Rattle.table.specs.File.{props, terms, expected, propRecord, termRecord, prop-kind, kind-of}
-use Rattle.table.specs.Form.{prop-shape, term-shape}
+use Rattle.layout.specs.File.{props, terms, expected, propRecord, termRecord, prop-kind, kind-of}
+use Rattle.layout.specs.Form.{prop-shape, term-shape}
 
 -- WHAT A RECORD NAMES: a proposition its children (a and b, or the body c)
 unfoldable pub prop-children : ℕ → Record → List ℕ

@@ -6,7 +6,7 @@ use mathlib.Core.List.{List, [], _∷_}
 use Prim.Native.Nat.{ℕ, _+_, _<_, _≤_, min}
 use lib.ListN.{length, getD}
 use Rattle.table.specs.declared.Purpose.{Purpose}
-use Rattle.table.specs.File.{props, terms}
+use Rattle.layout.specs.File.{props, terms}
 use Rattle.table.specs.Links.{hits, prop-named, term-named}
 
 -- from byte `base` on the room shows how often each of `bound` records was named

@@ -14,8 +14,8 @@ use Rattle.table.specs.declared.Guilty.{Guilty}
 use Rattle.table.specs.declared.Guilty.the-variants.{At, Nobody}
 use Rattle.table.specs.declared.above.Settled.{Settled}
 use Rattle.table.specs.declared.above.Settled.the-variants.{Free, Bound}
-use Rattle.table.specs.File.{props, propRecord, PropKind, constant, linked, quantified, atomic, strange, prop-kind}
-use Rattle.table.specs.Form.{prop-shape}
+use Rattle.layout.specs.File.{props, propRecord, PropKind, constant, linked, quantified, atomic, strange, prop-kind}
+use Rattle.layout.specs.Form.{prop-shape}
 use Rattle.table.specs.Links.{prop-links, hits}
 use Rattle.table.specs.Reading.{parent}
 

@@ -9,8 +9,8 @@ use Rattle.number.specs.Limits.{most-propositions, most-terms, most-height, mos
 use Rattle.table.specs.declared.Purpose.{Purpose}
 use Rattle.table.specs.declared.Verdict.{Verdict}
 use Rattle.table.specs.declared.Verdict.the-variants.{Passes}
-use Rattle.table.specs.File.{props, terms, propRecord, termRecord}
-use Rattle.table.specs.Form.{prop-form, term-form}
+use Rattle.layout.specs.File.{props, terms, propRecord, termRecord}
+use Rattle.layout.specs.Form.{prop-form, term-form}
 use Rattle.table.specs.Links.{expected-ok, badly-linked-prop, badly-linked-term}
 use Rattle.table.specs.Reading.{propAt}
 use Rattle.table.specs.Size.{height, depth}

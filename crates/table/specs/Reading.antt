@@ -11,8 +11,8 @@ use Rattle.rules.specs.Prop.{Param, free, bound, Prop, const, link, quant, atom
 use Rattle.rules.specs.Term.{Leaf, Single, Double, Triple, Term, leaf, single, double, triple, sorry}
 use Rattle.table.specs.declared.Guilty.{Guilty}
 use Rattle.table.specs.declared.Guilty.the-variants.{At, Nobody}
-use Rattle.table.specs.declared.record.TermRecord.{TermRecord}
-use Rattle.table.specs.File.{props, terms, propRecord, termRecord, PropKind, constant, linked, quantified, atomic, strange, prop-kind, Kind, Ident, Pair, ProjectFst, ProjectSnd, Function, Application, LetIn, OrLeft, OrRight, Case, Abort, TheUnit, TypeAscription, Sorry, Strange, kind-of}
+use Rattle.layout.specs.declared.record.TermRecord.{TermRecord}
+use Rattle.layout.specs.File.{props, terms, propRecord, termRecord, PropKind, constant, linked, quantified, atomic, strange, prop-kind, Kind, Ident, Pair, ProjectFst, ProjectSnd, Function, Application, LetIn, OrLeft, OrRight, Case, Abort, TheUnit, TypeAscription, Sorry, Strange, kind-of}
 use Rattle.table.specs.Links.{prop-links, hits}
 
 -- the lowest of i, i + 1, .. (k numbers) that passes the test

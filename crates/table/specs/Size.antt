@@ -8,7 +8,7 @@ use Rattle.number.specs.Limits.{most-height, most-depth}
 use Rattle.rules.specs.Prop.{Prop, const, link, quant, atom}
 use Rattle.table.specs.declared.Guilty.{Guilty}
 use Rattle.table.specs.declared.Guilty.the-variants.{At, Nobody}
-use Rattle.table.specs.File.{terms, termRecord}
+use Rattle.layout.specs.File.{terms, termRecord}
 use Rattle.table.specs.Links.{term-links, hits}
 use Rattle.table.specs.Reading.{first, propAt}
 

@@ -5,8 +5,8 @@ use mathlib.Core.List.{List}
 use Prim.Native.Nat.{ℕ, zero, suc, _<_, max}
 use lib.ListN.{length, getD}
 use Rattle.number.specs.declared.record.Record.{Record}
-use Rattle.table.specs.File.{prop-kind}
-use Rattle.table.specs.Form.{prop-shape}
+use Rattle.layout.specs.File.{prop-kind}
+use Rattle.layout.specs.Form.{prop-shape}
 use Rattle.table.specs.Links.{prop-links, hits}
 
 -- the height of a record over those that the room holds of its children

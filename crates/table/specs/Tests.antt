@@ -16,8 +16,8 @@ use Rattle.table.specs.declared.Guilty.{Guilty}
 use Rattle.table.specs.declared.Guilty.the-variants.{At, Nobody}
 use Rattle.table.specs.declared.Verdict.{Verdict}
 use Rattle.table.specs.declared.Verdict.the-variants.{Passes, Refused}
-use Rattle.table.specs.File.{props, terms, expected, propRecord, termRecord}
-use Rattle.table.specs.Form.{prop-form, term-form}
+use Rattle.layout.specs.File.{props, terms, expected, propRecord, termRecord}
+use Rattle.layout.specs.Form.{prop-form, term-form}
 use Rattle.table.specs.Links.{expected-ok, badly-linked-prop, badly-linked-term}
 use Rattle.table.specs.Reading.{first, propAt}
 use Rattle.table.specs.Size.{too-high, too-deep}

@@ -7,13 +7,10 @@ ghost use Rattle.table.specs.Tests.{tests, Tested, «test-room»};
 
 pub mod above;
 mod closed;
-pub mod form;
 mod forming;
-pub mod header;
 mod link;
 mod naming;
 mod opening;
-pub mod record;
 mod size;
 
 use number::Proposition;

@@ -1,6 +1,6 @@
 use mathlib.Core.Path.{refl}
 use Rattle.rules.specs.Prop.{imp}
-use Rattle.table.specs.File.{prop-kind, prop-kinds}
+use Rattle.layout.specs.File.{prop-kind, prop-kinds}
 use borrow.Author.Needs.{needs}
 use Rattle.prop.proofs.head.impl_parts.Statement.{statement}
 use Rattle.prop.proofs.head.impl_parts.Tie as tie

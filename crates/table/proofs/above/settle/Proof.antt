@@ -1,7 +1,7 @@
 use borrow.Author.Needs.{needs}
 use Prim.Native.Nat.{_-_, _<_, _≤_}
 use native.Mathlib.Omega.{arith}
-use Rattle.table.specs.File.{props}
+use Rattle.layout.specs.File.{props}
 use Rattle.table.proofs.Chains.{Climb, climb-start, climb-found, climb-falls, climb-step, climb-end}
 use Rattle.table.proofs.above.settle.Statement.{statement}
 use Rattle.table.proofs.above.settle.Tie as tie

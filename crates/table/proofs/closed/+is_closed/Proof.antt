@@ -8,8 +8,8 @@ use Rattle.table.proofs.closed.is_closed.Reads as is-closed
 use Rattle.table.proofs.closed.is_closed.Kinds as kinds
 use Rattle.table.proofs.closed.+is_closed.Lts-is_closed as lts
 use Rattle.table.proofs.closed.all_bound.Reads as all-bound
-use Rattle.table.proofs.form.prop_shape.Reads as prop-shape
-use Rattle.table.proofs.record.proposition_at.Reads as proposition-at
+use Rattle.layout.proofs.form.prop_shape.Reads as prop-shape
+use Rattle.layout.proofs.record.proposition_at.Reads as proposition-at
 use Rattle.table.proofs.closed.+is_closed.{statement}
 use Rattle.table.proofs.closed.+is_closed.Tie.{close}
 

@@ -4,8 +4,8 @@ use mathlib.Core.Path.{_≡_, ap, sym, _∙_}
 use mathlib.Core.Bool.{Bool, not}
 use mathlib.Core.List.{List}
 use Prim.Native.Nat.{ℕ, _≤_, _-_}
-use Rattle.table.specs.File.{propRecord}
-use Rattle.table.specs.Form.{prop-form}
+use Rattle.layout.specs.File.{propRecord}
+use Rattle.layout.specs.Form.{prop-form}
 use Rattle.table.specs.Reading.{first, first-from}
 use Rattle.table.proofs.Firsts.{first-start, first-here, first-past, first-none}
 use Rattle.table.proofs.forming.formless_proposition.Statement.{statement}

@@ -1,4 +1,4 @@
-use Rattle.table.specs.Form.{prop-form}
+use Rattle.layout.specs.Form.{prop-form}
 use borrow.Author.Needs.{needs}
 use Rattle.table.proofs.forming.prop_form.Statement.{statement}
 use Rattle.table.proofs.forming.prop_form.Tie as tie

@@ -1,4 +1,4 @@
-use Rattle.table.specs.Form.{term-form}
+use Rattle.layout.specs.Form.{term-form}
 use borrow.Author.Needs.{needs}
 use Rattle.table.proofs.forming.term_form.Statement.{statement}
 use Rattle.table.proofs.forming.term_form.Tie as tie

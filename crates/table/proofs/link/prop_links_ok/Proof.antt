@@ -1,8 +1,8 @@
 use mathlib.Core.Path.{ap, sym, subst, _∙_}
 use Prim.Native.Nat.{_≤_}
 use lib.Dec.{ltb}
-use Rattle.table.specs.declared.form.PropShape.{PropShape}
-use Rattle.table.proofs.Strange.{past}
+use Rattle.layout.specs.declared.form.PropShape.{PropShape}
+use Rattle.layout.proofs.Strange.{past}
 use Rattle.table.proofs.Guilts.{no-child, one-child, two-children}
 use borrow.Author.Needs.{needs}
 use Rattle.table.proofs.link.prop_links_ok.Statement.{statement}

@@ -1,7 +1,7 @@
 use mathlib.Core.Path.{ap, _∙_}
 use mathlib.Core.Bool.{_&&_}
 use lib.Dec.{ltb}
-use Rattle.table.specs.declared.form.TermShape.{TermShape}
+use Rattle.layout.specs.declared.form.TermShape.{TermShape}
 use Rattle.table.specs.Links.{all-links, term-children}
 use Rattle.table.proofs.Guilts.{children-test}
 use borrow.Author.Needs.{needs}

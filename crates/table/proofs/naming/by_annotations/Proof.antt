@@ -1,13 +1,13 @@
 use Rattle.number.specs.Records.{recordAt}
-use Rattle.table.specs.declared.record.TermRecord.{TermRecord}
-use Rattle.table.specs.File.{asTerm}
+use Rattle.layout.specs.declared.record.TermRecord.{TermRecord}
+use Rattle.layout.specs.File.{asTerm}
 use borrow.Author.Needs.{needs}
 use mathlib.Core.Path.{_≡_, ap, subst, _∙_}
 use mathlib.Core.List.{List}
 use Prim.Native.Nat.{ℕ, _+_, _≤_, _-_}
 use native.Mathlib.Omega.{arith}
 use lib.ListN.{length}
-use Rattle.table.specs.File.{termRecord}
+use Rattle.layout.specs.File.{termRecord}
 use Rattle.table.specs.Links.{hits, sum, annotation}
 use Rattle.table.specs.Naming.{Names}
 use Rattle.table.proofs.Namings.{names-same, names-start, names-step, annotation-hits}

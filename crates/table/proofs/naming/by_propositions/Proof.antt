@@ -5,7 +5,7 @@ use mathlib.Core.List.{List}
 use Prim.Native.Nat.{ℕ, _+_, _≤_, _-_}
 use native.Mathlib.Omega.{arith}
 use lib.ListN.{length}
-use Rattle.table.specs.File.{propRecord}
+use Rattle.layout.specs.File.{propRecord}
 use Rattle.table.specs.Links.{hits, sum, prop-links}
 use Rattle.table.specs.Naming.{Names}
 use Rattle.table.proofs.Namings.{names-same, names-start, names-step}

@@ -1,5 +1,5 @@
 use mathlib.Core.Path.{ap, _∙_}
-use Rattle.table.specs.declared.form.PropShape.{PropShape}
+use Rattle.layout.specs.declared.form.PropShape.{PropShape}
 use Rattle.table.specs.Links.{hits, prop-children, prop-links}
 use Rattle.table.proofs.Namings.{names-three, prop-hits}
 use borrow.Author.Needs.{needs}

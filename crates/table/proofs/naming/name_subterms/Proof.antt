@@ -1,5 +1,5 @@
 use mathlib.Core.Path.{ap, _∙_}
-use Rattle.table.specs.declared.form.TermShape.{TermShape}
+use Rattle.layout.specs.declared.form.TermShape.{TermShape}
 use Rattle.table.specs.Links.{hits, term-children, term-links}
 use Rattle.table.proofs.Namings.{names-three, term-hits}
 use borrow.Author.Needs.{needs}

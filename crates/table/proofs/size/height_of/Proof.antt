@@ -2,7 +2,7 @@ use Prim.Native.Nat.{_<_}
 use native.Mathlib.Omega.{arith}
 use lib.ListN.{length, getD}
 use borrow.Author.Needs.{needs}
-use Rattle.table.proofs.Strange.{past}
+use Rattle.layout.proofs.Strange.{past}
 use Rattle.table.proofs.Heights.{body-high, left-high, right-high, leaf-height, body-height, left-height, right-height}
 use Rattle.table.proofs.size.height_of.Statement.{statement}
 use Rattle.table.proofs.size.height_of.Tie as tie

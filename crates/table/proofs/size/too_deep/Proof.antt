@@ -4,7 +4,7 @@ use native.Mathlib.Omega.{arith}
 use lib.ListN.{length, length-set, getD}
 use borrow.Author.Needs.{needs}
 use Rattle.number.specs.Records.{recordAt}
-use Rattle.table.specs.File.{terms, asTerm, termRecord}
+use Rattle.layout.specs.File.{terms, asTerm, termRecord}
 use Rattle.table.specs.Reading.{first, first-from}
 use Rattle.table.specs.Size.{depth, too-deep}
 use Rattle.table.proofs.Firsts.{first-start, first-here, first-past, first-none}

@@ -3,7 +3,7 @@ use Prim.Native.Nat.{_≤_, _<_, _-_}
 use native.Mathlib.Omega.{arith}
 use lib.ListN.{length, length-set}
 use borrow.Author.Needs.{needs}
-use Rattle.table.specs.File.{props}
+use Rattle.layout.specs.File.{props}
 use Rattle.table.specs.Reading.{first, first-from, propAt}
 use Rattle.table.specs.Size.{height, too-high}
 use Rattle.table.proofs.Firsts.{first-start, first-here, first-past, first-none}

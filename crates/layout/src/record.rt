@@ -3,7 +3,7 @@ ghost use mathlib.Core.Path.{_≡_};
 ghost use Prim.Native.Nat.{_+_, _*_, _≤_};
 ghost use lib.ListN.{length};
 ghost use Rattle.number.specs.Records.{recordAt};
-ghost use Rattle.table.specs.File.{propRecord, asTerm};
+ghost use Rattle.layout.specs.File.{propRecord, asTerm};
 use number::Name;
 use number::Proposition;
 use number::Term;

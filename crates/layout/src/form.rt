@@ -1,7 +1,7 @@
 // Kinds: what each of them uses of its record, one decision for propositions and one for terms.
 ghost use mathlib.Core.Path.{_≡_};
-ghost use Rattle.table.specs.File.{«prop-kind», «kind-of»};
-ghost use Rattle.table.specs.Form.{«prop-shape», «term-shape»};
+ghost use Rattle.layout.specs.File.{«prop-kind», «kind-of»};
+ghost use Rattle.layout.specs.Form.{«prop-shape», «term-shape»};
 
 // What a kind of proposition uses: of the fields a, b and c the first so many; so many children; and this range of parameter
 // counts, an empty one for a kind that is not known.

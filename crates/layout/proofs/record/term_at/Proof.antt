@@ -1,6 +1,6 @@
 use borrow.Author.Needs.{needs}
-use Rattle.table.proofs.record.term_at.Statement.{statement}
-use Rattle.table.proofs.record.term_at.Tie as tie
+use Rattle.layout.proofs.record.term_at.Statement.{statement}
+use Rattle.layout.proofs.record.term_at.Tie as tie
 
 cast-j : tie.Need-cast-j
 cast-j c = search needs

@@ -1,11 +1,11 @@
 use mathlib.Core.Path.{ap, sym, _∙_}
 use native.Mathlib.Omega.{arith}
-use Rattle.table.proofs.Strange.{strange-term, past}
-use Rattle.table.specs.Form.{term-shape}
-use Rattle.table.specs.File.{kind-of, kinds}
+use Rattle.layout.proofs.Strange.{strange-term, past}
+use Rattle.layout.specs.Form.{term-shape}
+use Rattle.layout.specs.File.{kind-of, kinds}
 use borrow.Author.Needs.{needs}
-use Rattle.table.proofs.form.term_shape.Statement.{statement}
-use Rattle.table.proofs.form.term_shape.Tie as tie
+use Rattle.layout.proofs.form.term_shape.Statement.{statement}
+use Rattle.layout.proofs.form.term_shape.Tie as tie
 
 term-row-requires : tie.Need-term-row-requires
 term-row-requires c κs = search needs

@@ -2,7 +2,7 @@
 ghost use mathlib.Core.Path.{_≡_};
 ghost use Prim.Native.Nat.{_≤_};
 ghost use lib.ListN.{length};
-ghost use Rattle.table.specs.File.{props, terms, expected};
+ghost use Rattle.layout.specs.File.{props, terms, expected};
 use number::Proposition;
 use number::record::word;
 

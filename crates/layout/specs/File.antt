@@ -7,7 +7,7 @@ use lib.ListN.{getD}
 use Rattle.number.specs.declared.record.Record.{Record}
 use Rattle.number.specs.Records.{wordAt, recordAt}
 use Rattle.rules.specs.Prop.{Link, and, or, imp, Quant, all, ex}
-use Rattle.table.specs.declared.record.TermRecord.{TermRecord}
+use Rattle.layout.specs.declared.record.TermRecord.{TermRecord}
 
 -- THE HEADER: how many propositions, how many terms, and the number of the expected proposition
 abbrev pub props : List ℕ → ℕ

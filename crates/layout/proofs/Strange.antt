@@ -3,7 +3,7 @@ use mathlib.Core.Path.{_≡_}
 use Prim.Native.Nat.{ℕ, zero, suc, _≤_}
 use native.Mathlib.Omega.{arith}
 use lib.ListN.{List·getD-eq-default}
-use Rattle.table.specs.File.{prop-kinds, prop-kind, strange, kinds, kind-of, Strange}
+use Rattle.layout.specs.File.{prop-kinds, prop-kind, strange, kinds, kind-of, Strange}
 
 pub strange-prop : (k : ℕ) → 8 ≤ k → prop-kind k ≡ strange
 unfolding prop-kinds prop-kind

@@ -1,11 +1,11 @@
 use mathlib.Core.Path.{ap, sym, _∙_}
 use native.Mathlib.Omega.{arith}
-use Rattle.table.proofs.Strange.{strange-prop, past}
-use Rattle.table.specs.Form.{prop-shape}
-use Rattle.table.specs.File.{prop-kind, prop-kinds}
+use Rattle.layout.proofs.Strange.{strange-prop, past}
+use Rattle.layout.specs.Form.{prop-shape}
+use Rattle.layout.specs.File.{prop-kind, prop-kinds}
 use borrow.Author.Needs.{needs}
-use Rattle.table.proofs.form.prop_shape.Statement.{statement}
-use Rattle.table.proofs.form.prop_shape.Tie as tie
+use Rattle.layout.proofs.form.prop_shape.Statement.{statement}
+use Rattle.layout.proofs.form.prop_shape.Tie as tie
 
 prop-row-requires : tie.Need-prop-row-requires
 prop-row-requires c κs = search needs

@@ -6,10 +6,10 @@ use Prim.Native.Nat.{ℕ}
 use lib.ListN.{getD}
 use lib.Dec.{eqb, leb, ltb}
 use Rattle.number.specs.declared.record.Record.{Record}
-use Rattle.table.specs.declared.record.TermRecord.{TermRecord}
-use Rattle.table.specs.declared.form.PropShape.{PropShape}
-use Rattle.table.specs.declared.form.TermShape.{TermShape}
-use Rattle.table.specs.File.{PropKind, constant, linked, quantified, atomic, strange, prop-kind, Kind, Ident, Pair, ProjectFst, ProjectSnd, Function, Application, LetIn, OrLeft, OrRight, Case, Abort, TheUnit, TypeAscription, Sorry, Strange, kind-of}
+use Rattle.layout.specs.declared.record.TermRecord.{TermRecord}
+use Rattle.layout.specs.declared.form.PropShape.{PropShape}
+use Rattle.layout.specs.declared.form.TermShape.{TermShape}
+use Rattle.layout.specs.File.{PropKind, constant, linked, quantified, atomic, strange, prop-kind, Kind, Ident, Pair, ProjectFst, ProjectSnd, Function, Application, LetIn, OrLeft, OrRight, Case, Abort, TheUnit, TypeAscription, Sorry, Strange, kind-of}
 
 -- a field that is not used is zero
 abbrev pub fits : Bool → ℕ → Bool

@@ -11,3 +11,4 @@ pub mod Passing
 pub mod Heights
 pub mod Chains
 pub mod Verdicts
+pub mod Fills

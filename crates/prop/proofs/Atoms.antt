@@ -30,7 +30,7 @@ pub record Atom (r : Record) : Type 0 where
   pub rest-2 : r .count ≤ 2 → getD (r .parameters) 2 0 ≡ 0
   pub rest-3 : r .count ≤ 3 → getD (r .parameters) 3 0 ≡ 0
 
-split : (a b : Bool) → (a && b) ≡ true → (a ≡ true) × (b ≡ true)
+pub split : (a b : Bool) → (a && b) ≡ true → (a ≡ true) × (b ≡ true)
 split a b = and-eq-true-iff a b .0
 
 unused : (i n x : ℕ) → fits (ltb i n) x ≡ true → n ≤ i → x ≡ 0
@@ -123,16 +123,16 @@ module _ (n b : ℕ) (h : b < 4 ^ n) where
   below-power : (i : ℕ) → n ≤ i → b < 4 ^ i
   below-power i l = omega (arith, pow-le-pow-right {n = 4} (omega arith) {i = n} {j = i} l)
 
-  none-0 : n ≤ 0 → kind-0 b ≡ 0
+  pub none-0 : n ≤ 0 → kind-0 b ≡ 0
   none-0 l = omega (arith, below-power 0 l)
 
-  none-1 : n ≤ 1 → kind-1 b ≡ 0
+  pub none-1 : n ≤ 1 → kind-1 b ≡ 0
   none-1 l = omega (arith, below-power 1 l)
 
-  none-2 : n ≤ 2 → kind-2 b ≡ 0
+  pub none-2 : n ≤ 2 → kind-2 b ≡ 0
   none-2 l = omega (arith, below-power 2 l)
 
-  none-3 : n ≤ 3 → kind-3 b ≡ 0
+  pub none-3 : n ≤ 3 → kind-3 b ≡ 0
   none-3 l = omega (arith, below-power 3 l)
 
 -- the kinds make the field

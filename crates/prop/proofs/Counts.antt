@@ -43,7 +43,7 @@ counted-over s left e = at (leb s left) refl e
     at false t e = leb-false s left t
 
 -- `nodes_of`, in the order of its code
-size-some : (P : Prop) → 1 ≤ size P
+pub size-some : (P : Prop) → 1 ≤ size P
 unfolding size
 size-some (const o b) = omega arith
 size-some (link o l A B) = omega arith

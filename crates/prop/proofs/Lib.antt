@@ -6,3 +6,4 @@ pub mod Counts
 pub mod Occurs
 pub mod Atoms
 pub mod Alike
+pub mod Copies

@@ -2,3 +2,4 @@ pub mod Room
 pub mod Head
 pub mod Size
 pub mod Compare
+pub mod Copy

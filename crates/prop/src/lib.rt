@@ -2,6 +2,7 @@
 // number stands for never changes.
 
 pub mod compare;
+pub mod copy;
 pub mod head;
 pub mod holds;
 pub mod node;

@@ -1,0 +1,53 @@
+-- Copies of a proposition, its parameters changed. Assumes nothing.
+use mathlib.Core.Path.{_≡_}
+use mathlib.Core.Bool.{true}
+use mathlib.Core.List.{List, map}
+use Prim.Native.Nat.{ℕ, _+_, _<_, _≤_}
+use lib.ListN.{length}
+use Rattle.number.specs.declared.record.Record.{Record}
+use Rattle.number.specs.Limits.{most-propositions}
+use Rattle.number.specs.Records.{Put, Same}
+use Rattle.rules.specs.Prop.{Param, put-at, bind-at, copy, walk, size}
+use Rattle.rules.specs.State.{limit}
+use Rattle.prop.specs.declared.copy.Change.{Change}
+use Rattle.prop.specs.declared.copy.Change.the-variants as to
+use Rattle.prop.specs.declared.copy.Copied.{Copied}
+use Rattle.prop.specs.Room.{param, params, roomAt, room-form, Arena}
+
+-- the room's records: a table's, and as many as a run may make
+abbrev pub most-records : ℕ
+most-records = most-propositions + limit
+
+-- what becomes of a parameter below d quantifiers
+unfoldable pub changed : Change → ℕ → Param → Param
+changed (to.Put s) = put-at (s .0)
+changed (to.Bind s) = bind-at (s .0)
+
+-- kind l and number y are what becomes of kind k and number x
+pub record ChangedIs (h : Param → Param) (k x l y : ℕ) : Type 0 where
+  pub known : l < 3
+  pub unused : k ≡ 0 → (l ≡ 0) × (y ≡ x)
+  pub means : param l y ≡ h (param k x)
+
+-- q is the atom r with its parameters changed
+pub record AtomIs (h : Param → Param) (r q : Record) : Type 0 where
+  pub kind : q .kind ≡ r .kind
+  pub predicate : q .a ≡ r .a
+  pub form : room-form q ≡ true
+  pub means : params q ≡ map h (params r)
+
+-- one record more
+abbrev pub MoreIs : List ℕ → ℕ → Record → List ℕ → Copied → Type 0
+MoreIs old c r new o = (o .at .0 ≡ c) × (o .count ≡ c + 1) × Put old c r new
+
+-- number m stands for the copy of what n stands for, in records from c up to e: all of them are made ones
+pub record IsCopy (old : List ℕ) (c n : ℕ) (h : ℕ → Param → Param) (d : ℕ) (new : List ℕ) (m e : ℕ) : Type 0 where
+  pub count : (tables : ℕ) → e ≡ c + size (roomAt tables old n)
+  pub below : m < e
+  pub arena : Arena new e
+  pub same : Same c old new
+  pub long : length new ≡ length old
+  pub means : (tables : ℕ) → tables ≤ c → roomAt tables new m ≡ walk copy h d (roomAt tables old n)
+
+abbrev pub CopiedIs : List ℕ → ℕ → ℕ → (ℕ → Param → Param) → ℕ → List ℕ → Copied → Type 0
+CopiedIs old c n h d new o = IsCopy old c n h d new (o .at .0) (o .count)

@@ -19,7 +19,7 @@ use Rattle.prop.specs.declared.copy.Change.{Change}
 use Rattle.prop.specs.declared.copy.Change.the-variants as to
 use Rattle.prop.specs.declared.copy.Copied.{Copied}
 use Rattle.prop.specs.Room.{param, kind-0, kind-1, kind-2, kind-3, params, origin, node, roomAt, kinds-fit, without-kinds, form-as, room-form, Arena}
-use Rattle.prop.specs.Copy.{most-records, changed, ChangedIs, AtomIs, MoreIs, CopiedIs}
+use Rattle.prop.specs.Copy.{Makes, most-records, changed, ChangedIs, AtomIs, MoreIs, CopiedIs}
 use Rattle.prop.proofs.Rooms.{kind-known, room-same, arena-put, room-put}
 use Rattle.prop.proofs.Views.{kind-constant, kind-linked, kind-quantified, kind-atomic, stands, at-linked, at-quantified}
 use Rattle.prop.proofs.Counts.{size-some}
@@ -221,15 +221,15 @@ pub one-word : (c : ℕ) → c < most-records → c + 1 < 65536
 unfolding limit
 one-word c h = omega arith
 
-made-here : (tables n : ℕ) → tables ≤ n → origin tables n ≡ made
+pub made-here : (tables n : ℕ) → tables ≤ n → origin tables n ≡ made
 unfolding origin
 made-here tables n h = rw (le-ltb n tables h)
 
-module _ {old mid new : List ℕ} {c e n d : ℕ} {h : ℕ → Param → Param} {q : Record} {o : Copied} where
-  top : Arena mid e → Same c old mid → c ≤ e → length mid ≡ length old → e < most-records → 16 * most-records ≤ length old → room-form q ≡ true
-      → all-links (λ m. ltb m e) (prop-links q) ≡ true → ((tables : ℕ) → e + 1 ≡ c + size (roomAt tables old n))
-      → ((tables : ℕ) → tables ≤ c → node tables e (roomAt tables mid) (prop-kind (q .kind)) q ≡ walk copy h d (roomAt tables old n))
-      → MoreIs mid e q new o → CopiedIs old c n h d new o
+module _ {old mid new : List ℕ} {c e : ℕ} {q : Record} {o : Copied} (k : ℕ → ℕ) (P : ℕ → Prop) where
+  pub top : Arena mid e → Same c old mid → c ≤ e → length mid ≡ length old → e < most-records → 16 * most-records ≤ length old → room-form q ≡ true
+      → all-links (λ m. ltb m e) (prop-links q) ≡ true → ((tables : ℕ) → e + 1 ≡ c + k tables)
+      → ((tables : ℕ) → tables ≤ c → node tables e (roomAt tables mid) (prop-kind (q .kind)) q ≡ P tables)
+      → MoreIs mid e q new o → Makes old c k P new (o .at .0) (o .count)
   top ok same up len lim long form links sizes means g =
       let room : 16 * e + 16 ≤ length mid = omega arith in
       record {
@@ -242,7 +242,7 @@ module _ {old mid new : List ℕ} {c e n d : ℕ} {h : ℕ → Param → Param} 
       }
 
 -- the links of a record of a known kind
-links-as : (ok : ℕ → Bool) (q : Record) (K : PropKind) → prop-kind (q .kind) ≡ K → all-links ok (prop-children (prop-shape K .children) q) ≡ true → all-links ok (prop-links q) ≡ true
+pub links-as : (ok : ℕ → Bool) (q : Record) (K : PropKind) → prop-kind (q .kind) ≡ K → all-links ok (prop-children (prop-shape K .children) q) ≡ true → all-links ok (prop-links q) ≡ true
 links-as ok q K e h = subst⁻¹ (λ (K : PropKind). all-links ok (prop-children (prop-shape K .children) q) ≡ true) e h
 
 -- `copy`, in the order of its code
@@ -259,7 +259,7 @@ module _ (old : List ℕ) (c n : ℕ) (ok : Arena old c) (k : n < c) (fit : (tab
     copy-constant g d h new o m =
         let v = kind-constant (r .kind) g in
         let whole = stands old c n ok k r er (constant (v .0)) (v .1) in
-        top ok (λ i l. refl) (omega arith) refl one-fits long form-here (links-as (λ m. ltb m c) r (constant (v .0)) (v .1) refl)
+        top _ _ ok (λ i l. refl) (omega arith) refl one-fits long form-here (links-as (λ m. ltb m c) r (constant (v .0)) (v .1) refl)
         (λ tables. ap (λ (P : Prop). c + size P) (sym (whole tables)))
         (λ tables l.
         ap (λ (K : PropKind). node tables c (roomAt tables old) K r) (v .1)
@@ -277,7 +277,7 @@ module _ (old : List ℕ) (c n : ℕ) (ok : Arena old c) (k : n < c) (fit : (tab
       copy-atom d h q a new o m =
           let whole = stands old c n ok k r er atomic is-atomic in
           let K : prop-kind (q .kind) ≡ atomic = ap prop-kind (a .kind) ∙ is-atomic in
-          top ok (λ i l. refl) (omega arith) refl one-fits long (a .form) (links-as (λ m. ltb m c) q atomic K refl)
+          top _ _ ok (λ i l. refl) (omega arith) refl one-fits long (a .form) (links-as (λ m. ltb m c) q atomic K refl)
           (λ tables. ap (λ (P : Prop). c + size P) (sym (whole tables)))
           (λ tables l.
           ap (λ (K : PropKind). node tables c (roomAt tables old) K q) K
@@ -355,7 +355,7 @@ module _ (old : List ℕ) (c n : ℕ) (ok : Arena old c) (k : n < c) (fit : (tab
           pub copy-link : (new : List ℕ) (o : Copied) → MoreIs last (o₂ .count) parent new o → CopiedIs old c n h d new o
           unfolding node walk
           copy-link new o m =
-              top (i₂ .arena) (λ i l. i₂ .same i (omega (arith, i₁ .count 0)) ∙ i₁ .same i l) (omega (arith, i₁ .count 0, i₂ .count 0)) (i₂ .long ∙ i₁ .long)
+              top _ _ (i₂ .arena) (λ i l. i₂ .same i (omega (arith, i₁ .count 0)) ∙ i₁ .same i l) (omega (arith, i₁ .count 0, i₂ .count 0)) (i₂ .long ∙ i₁ .long)
               link-fits long parent-form parent-links link-count
               (λ tables l.
               let a : roomAt tables last (o₁ .at .0) ≡ walk copy h d (roomAt tables old (r .a)) =
@@ -419,7 +419,7 @@ module _ (old : List ℕ) (c n : ℕ) (ok : Arena old c) (k : n < c) (fit : (tab
         unfolding node walk
         copy-quant new o m =
             let deeper : d + 1 ≡ suc d = omega arith in
-            top (i₁ .arena) (i₁ .same) (omega (arith, i₁ .count 0)) (i₁ .long) quant-fits long binder-form binder-links quant-count
+            top _ _ (i₁ .arena) (i₁ .same) (omega (arith, i₁ .count 0)) (i₁ .long) quant-fits long binder-form binder-links quant-count
             (λ tables l.
             let b : roomAt tables mid (o₁ .at .0) ≡ walk copy h (suc d) (roomAt tables old (r .c)) =
             i₁ .means tables l ∙ ap (λ (j : ℕ). walk copy h j (roomAt tables old (r .c))) deeper in

@@ -7,7 +7,7 @@ use lib.ListN.{length}
 use Rattle.number.specs.declared.record.Record.{Record}
 use Rattle.number.specs.Limits.{most-propositions}
 use Rattle.number.specs.Records.{Put, Same}
-use Rattle.rules.specs.Prop.{Param, put-at, bind-at, copy, walk, size}
+use Rattle.rules.specs.Prop.{Param, Prop, put-at, bind-at, copy, walk, size}
 use Rattle.rules.specs.State.{limit}
 use Rattle.prop.specs.declared.copy.Change.{Change}
 use Rattle.prop.specs.declared.copy.Change.the-variants as to
@@ -40,14 +40,18 @@ pub record AtomIs (h : Param → Param) (r q : Record) : Type 0 where
 abbrev pub MoreIs : List ℕ → ℕ → Record → List ℕ → Copied → Type 0
 MoreIs old c r new o = (o .at .0 ≡ c) × (o .count ≡ c + 1) × Put old c r new
 
--- number m stands for the copy of what n stands for, in records from c up to e: all of them are made ones
-pub record IsCopy (old : List ℕ) (c n : ℕ) (h : ℕ → Param → Param) (d : ℕ) (new : List ℕ) (m e : ℕ) : Type 0 where
-  pub count : (tables : ℕ) → e ≡ c + size (roomAt tables old n)
+-- number m stands for P, in k records more, from c up to e; below c nothing changes. P and k may depend on how many records are the table's
+pub record Makes (old : List ℕ) (c : ℕ) (k : ℕ → ℕ) (P : ℕ → Prop) (new : List ℕ) (m e : ℕ) : Type 0 where
+  pub count : (tables : ℕ) → e ≡ c + k tables
   pub below : m < e
   pub arena : Arena new e
   pub same : Same c old new
   pub long : length new ≡ length old
-  pub means : (tables : ℕ) → tables ≤ c → roomAt tables new m ≡ walk copy h d (roomAt tables old n)
+  pub means : (tables : ℕ) → tables ≤ c → roomAt tables new m ≡ P tables
+
+-- number m stands for the copy of what n stands for, all of it made
+abbrev pub IsCopy : (old : List ℕ) (c n : ℕ) (h : ℕ → Param → Param) (d : ℕ) (new : List ℕ) (m e : ℕ) → Type 0
+IsCopy old c n h d new m e = Makes old c (λ t. size (roomAt t old n)) (λ t. walk copy h d (roomAt t old n)) new m e
 
 abbrev pub CopiedIs : List ℕ → ℕ → ℕ → (ℕ → Param → Param) → ℕ → List ℕ → Copied → Type 0
 CopiedIs old c n h d new o = IsCopy old c n h d new (o .at .0) (o .count)

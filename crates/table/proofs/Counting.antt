@@ -11,7 +11,7 @@ use native.Mathlib.Omega.{arith}
 use lib.Dec.{eqb, ltb}
 use borrow.Author.Tests.{ltb-true, ltb-false, eqb-true, eqb-false, eq-eqb, ne-eqb}
 use Rattle.rules.specs.Prop.{Ty}
-use Rattle.rules.specs.Term.{Term, leaf, single, double, triple, sorry, gaps}
+use Rattle.rules.specs.Term.{Term, nodes, gaps}
 use Rattle.table.specs.declared.Purpose.{Purpose}
 use Rattle.layout.specs.File.{terms, termRecord, Kind, Ident, Pair, ProjectFst, ProjectSnd, Function, Application, LetIn, OrLeft, OrRight, Case, Abort, TheUnit, TypeAscription, Sorry, Strange, kind-of}
 use Rattle.table.specs.Links.{term-links, hits, sum}
@@ -84,13 +84,6 @@ count-root links f w n pos step inside never once =
     omega (arith, but-first f (λ c. sum (λ t. hits c (links t)) n) n pos never once)
 
 -- THE NODES of a term
-unfoldable pub nodes : Term → ℕ
-nodes (leaf p k) = 1
-nodes (single p k a) = 1 + nodes a
-nodes (double p k a b) = 1 + (nodes a + nodes b)
-nodes (triple p k a b c) = 1 + (nodes a + (nodes b + nodes c))
-nodes (sorry p) = 1
-
 module _ {t : ℕ} {A : Option Ty} {sub : ℕ → Term} where
   nodes-view : {g : Bool} {cs : List ℕ} {u : Term} → View t A sub g cs u → nodes u ≡ 1 + over (λ c. nodes (sub c)) cs
   unfolding nodes over

@@ -1,17 +1,25 @@
 -- Copies of a proposition: parameters, atoms, and records put after those that are there. Assumes nothing.
-use mathlib.Core.Path.{_≡_, refl, ap, sym, subst⁻¹, _∙_}
-use mathlib.Core.Bool.{Bool, true, false, _&&_, and-eq-true-iff}
+use mathlib.Core.Path.{_≡_, refl, ap, sym, subst, subst⁻¹, _∙_}
+use mathlib.Core.Bool.{Bool, true, false, _&&_, not, false≢true, and-eq-true-iff}
 use mathlib.Core.List.{List, [], _∷_, map}
+use mathlib.Core.Option.{Option}
 use Prim.Native.Nat.{ℕ, zero, suc, _+_, _*_, _^_, _<_, _≤_}
 use native.Mathlib.Omega.{arith}
 use lib.ListN.{length, getD, take}
+use lib.Seq.{take-nil}
 use lib.Dec.{eqb, ltb}
 use borrow.Author.Tests.{eqb-true, eq-eqb, ltb-false, lt-ltb, le-ltb, le-leb}
 use Rattle.number.specs.declared.record.Record.{Record}
 use Rattle.number.specs.declared.Serial.{Serial}
 use Rattle.number.specs.Records.{recordAt, Same}
-use Rattle.rules.specs.Prop.{Param, ser, bound, Link, Quant, Origin, made, Prop, const, link, quant, atom, copy, walk, put-at, bind-at, size}
+use Rattle.rules.specs.Prop.{Param, free, ser, bound, Link, Quant, Origin, made, Prop, const, link, quant, atom, copy, walk, put-at, bind-at, size}
+use Rattle.rules.specs.Context.{Ctx, Entry, find, settle-as, settle}
 use Rattle.rules.specs.State.{limit}
+use Rattle.context.specs.declared.identifier_context.Entry.{Entry as Held}
+use Rattle.context.specs.declared.identifier_context.Found.{Found}
+use Rattle.context.specs.declared.identifier_context.Found.the-variants as here
+use Rattle.context.specs.Context.{Latest}
+use Rattle.context.proofs.Laws.{held-finds, nothing-finds}
 use Rattle.layout.specs.File.{PropKind, constant, linked, quantified, atomic, prop-kind}
 use Rattle.layout.specs.Form.{fits, prop-shape, in-prop-shape, prop-form}
 use Rattle.table.specs.Links.{all-links, prop-children, prop-links}
@@ -19,7 +27,7 @@ use Rattle.prop.specs.declared.copy.Change.{Change}
 use Rattle.prop.specs.declared.copy.Change.the-variants as to
 use Rattle.prop.specs.declared.copy.Copied.{Copied}
 use Rattle.prop.specs.Room.{param, kind-0, kind-1, kind-2, kind-3, params, origin, node, roomAt, kinds-fit, without-kinds, form-as, room-form, Arena}
-use Rattle.prop.specs.Copy.{Makes, most-records, changed, ChangedIs, AtomIs, MoreIs, CopiedIs}
+use Rattle.prop.specs.Copy.{Makes, most-records, names, changed, ChangeIn, ChangedIs, AtomIs, MoreIs, CopiedIs}
 use Rattle.prop.proofs.Rooms.{kind-known, room-same, arena-put, room-put}
 use Rattle.prop.proofs.Views.{kind-constant, kind-linked, kind-quantified, kind-atomic, stands, at-linked, at-quantified}
 use Rattle.prop.proofs.Counts.{size-some}
@@ -47,48 +55,75 @@ bind-away s zero x d e l = refl
 bind-away s (suc zero) x d e l = let f : eqb x s ≡ false = e in rw f
 bind-away s (suc (suc k)) x d e l = refl
 
-module _ (k x d : ℕ) (l : k < 3) (change : Change) (s : Serial) where
-  module _ (e : change ≡ to.Put s) where
-    pub put-hit : (eqb k 2 && eqb x d) ≡ true → ChangedIs (changed change d) k x 1 (s .0)
-    unfolding changed param
-    put-hit h =
-        let b = split (eqb k 2) (eqb x d) h in
-        let k2 : k ≡ 2 = eqb-true k 2 (b .0) in
-        record {
-          known = omega arith;
-          unused = λ z. absurd (omega arith);
-          means = subst⁻¹ (λ (t : Change). param 1 (s .0) ≡ changed t d (param k x)) e (put-there (s .0) k x d k2 (eqb-true x d (b .1)));
-        }
+settle-name : (Γ : Ctx) (k x : ℕ) (o : Option Entry) → k ≡ 0 → find x Γ ≡ o → settle-as x o ≡ settle Γ (param k x)
+unfolding settle param
+settle-name Γ k x o e f = rw (e, f)
 
-    pub put-miss : (eqb k 2 && eqb x d) ≡ false → ChangedIs (changed change d) k x k x
+settle-serial : (Γ : Ctx) (k x : ℕ) → k ≡ 1 → free x ≡ settle Γ (param k x)
+unfolding settle param
+settle-serial Γ k x e = rw e
+
+settle-bound : (Γ : Ctx) (k x : ℕ) → (k ≡ 0 → ⊥) → (k ≡ 1 → ⊥) → param k x ≡ settle Γ (param k x)
+unfolding settle param
+settle-bound Γ zero x a b = absurd (a refl)
+settle-bound Γ (suc zero) x a b = absurd (b refl)
+settle-bound Γ (suc (suc k)) x a b = refl
+
+-- the code's answers
+module _ (u : Bool) (k x : ℕ) (h : Param → Param) where
+  pub stays : k < 3 → not u ≡ true → ChangedIs u h k x k x
+  stays l g = record { known = l; unused = λ z. (refl, refl); means = λ t. absurd (false≢true (ap not (sym t) ∙ g)) }
+
+  becomes : not u ≡ false → (l y : ℕ) → l < 3 → param l y ≡ h (param k x) → ChangedIs u h k x l y
+  becomes g l y b e = record { known = b; unused = λ z. absurd (false≢true (sym g ∙ ap not z)); means = λ t. e }
+
+module _ (w : List ℕ) (n k x : ℕ) where
+  module _ (e : k ≡ 0) (r : Found) (p : Latest w n x r) where
+    pub settle-held : (y : Held) → r ≡ here.Held y → ChangedIs true (settle (names w n)) k x 1 (y .serial .0)
+    unfolding settle-as param
+    settle-held y q = becomes true k x (settle (names w n)) refl 1 _ (omega arith) (settle-name (names w n) k x _ e (held-finds _ p q))
+
+    pub settle-nothing : r ≡ here.Nothing → ChangedIs true (settle (names w n)) k x 0 x
+    unfolding settle-as param
+    settle-nothing q = becomes true k x (settle (names w n)) refl 0 x (omega arith) (settle-name (names w n) k x _ e (nothing-finds _ p q))
+
+  pub settle-one : k ≡ 1 → ChangedIs true (settle (names w n)) k x 0 x
+  unfolding param
+  settle-one e = becomes true k x (settle (names w n)) refl 0 x (omega arith) (settle-serial (names w n) k x e)
+
+  pub settle-rest : k < 3 → (k ≡ 0 → ⊥) → (k ≡ 1 → ⊥) → ChangedIs true (settle (names w n)) k x k x
+  settle-rest l a b = becomes true k x (settle (names w n)) refl k x l (settle-bound (names w n) k x a b)
+
+module _ (w : List ℕ) (u : Bool) (k x d : ℕ) (l : k < 3) (g : not u ≡ false) (change : Change) where
+  as-told : (t : Change) → change ≡ t → (m y : ℕ) → m < 3 → param m y ≡ changed w t d (param k x) → ChangedIs u (changed w change d) k x m y
+  as-told t e m y b p = becomes u k x (changed w change d) g m y b (subst⁻¹ (λ (t : Change). param m y ≡ changed w t d (param k x)) e p)
+
+  module _ (s : Serial) where
+    module _ (e : change ≡ to.Put s) where
+      pub put-hit : (eqb k 2 && eqb x d) ≡ true → ChangedIs u (changed w change d) k x 1 (s .0)
+      unfolding changed param
+      put-hit h = let b = split (eqb k 2) (eqb x d) h in as-told (to.Put s) e 1 (s .0) (omega arith) (put-there (s .0) k x d (eqb-true k 2 (b .0)) (eqb-true x d (b .1)))
+
+      pub put-miss : (eqb k 2 && eqb x d) ≡ false → ChangedIs u (changed w change d) k x k x
+      unfolding changed
+      put-miss h = as-told (to.Put s) e k x l (put-away (s .0) k x d h l)
+
+    module _ (e : change ≡ to.Bind s) where
+      pub bind-hit : (eqb k 1 && eqb x (s .0)) ≡ true → ChangedIs u (changed w change d) k x 2 d
+      unfolding changed param
+      bind-hit h = let b = split (eqb k 1) (eqb x (s .0)) h in as-told (to.Bind s) e 2 d (omega arith) (bind-there (s .0) k x d (eqb-true k 1 (b .0)) (eqb-true x (s .0) (b .1)))
+
+      pub bind-miss : (eqb k 1 && eqb x (s .0)) ≡ false → ChangedIs u (changed w change d) k x k x
+      unfolding changed
+      bind-miss h = as-told (to.Bind s) e k x l (bind-away (s .0) k x d h l)
+
+  module _ (n : ℕ) (e : change ≡ to.Resolve n) where
+    pub settle-room : ChangeIn w change → 8 * n ≤ length w
+    settle-room h = subst (ChangeIn w) e h
+
+    pub settled : (m y : ℕ) → ChangedIs true (settle (names w n)) k x m y → ChangedIs u (changed w change d) k x m y
     unfolding changed
-    put-miss h =
-        record {
-          known = l;
-          unused = λ z. (z, refl);
-          means = subst⁻¹ (λ (t : Change). param k x ≡ changed t d (param k x)) e (put-away (s .0) k x d h l);
-        }
-
-  module _ (e : change ≡ to.Bind s) where
-    pub bind-hit : (eqb k 1 && eqb x (s .0)) ≡ true → ChangedIs (changed change d) k x 2 d
-    unfolding changed param
-    bind-hit h =
-        let b = split (eqb k 1) (eqb x (s .0)) h in
-        let k1 : k ≡ 1 = eqb-true k 1 (b .0) in
-        record {
-          known = omega arith;
-          unused = λ z. absurd (omega arith);
-          means = subst⁻¹ (λ (t : Change). param 2 d ≡ changed t d (param k x)) e (bind-there (s .0) k x d k1 (eqb-true x (s .0) (b .1)));
-        }
-
-    pub bind-miss : (eqb k 1 && eqb x (s .0)) ≡ false → ChangedIs (changed change d) k x k x
-    unfolding changed
-    bind-miss h =
-        record {
-          known = l;
-          unused = λ z. (z, refl);
-          means = subst⁻¹ (λ (t : Change). param k x ≡ changed t d (param k x)) e (bind-away (s .0) k x d h l);
-        }
+    settled m y p = as-told (to.Resolve n) e m y (p .known) (p .means refl)
 
 -- AN ATOM
 join : (a b : Bool) → a ≡ true → b ≡ true → (a && b) ≡ true
@@ -101,7 +136,7 @@ used i n x h = at (ltb i n) refl
     at true e = refl
     at false e = eq-eqb x 0 (h (ltb-false i n e))
 
-form-of : (q : Record) → prop-kind (q .kind) ≡ atomic → q .c ≡ 0 → Atom q → room-form q ≡ true
+pub form-of : (q : Record) → prop-kind (q .kind) ≡ atomic → q .c ≡ 0 → Atom q → room-form q ≡ true
 unfolding room-form form-as kinds-fit prop-form prop-shape
 form-of q K z a =
     let b = q .b in
@@ -114,7 +149,7 @@ form-of q K z a =
     subst⁻¹ (λ (K : PropKind). form-as K q ≡ true) K (join _ _ kinds (subst⁻¹ (λ (K : PropKind). in-prop-shape (prop-shape K) (without-kinds q) ≡ true) K shape))
 
 -- four kinds make a field that has no more of them than there are parameters
-few-kinds : (n k l m o : ℕ) → n ≤ 4 → k < 3 → l < 3 → m < 3 → o < 3 → (n ≤ 0 → k ≡ 0) → (n ≤ 1 → l ≡ 0) → (n ≤ 2 → m ≡ 0) → (n ≤ 3 → o ≡ 0) → k + 4 * l + 16 * m + 64 * o < 4 ^ n
+pub few-kinds : (n k l m o : ℕ) → n ≤ 4 → k < 3 → l < 3 → m < 3 → o < 3 → (n ≤ 0 → k ≡ 0) → (n ≤ 1 → l ≡ 0) → (n ≤ 2 → m ≡ 0) → (n ≤ 3 → o ≡ 0) → k + 4 * l + 16 * m + 64 * o < 4 ^ n
 few-kinds zero k l m o h a b c d e f g i = omega (arith, e (omega arith), f (omega arith), g (omega arith), i (omega arith))
 few-kinds (suc zero) k l m o h a b c d e f g i = omega (arith, f (omega arith), g (omega arith), i (omega arith))
 few-kinds (suc (suc zero)) k l m o h a b c d e f g i = omega (arith, g (omega arith), i (omega arith))
@@ -123,22 +158,29 @@ few-kinds (suc (suc (suc (suc zero)))) k l m o h a b c d e f g i = omega arith
 few-kinds (suc (suc (suc (suc (suc n))))) k l m o h a b c d e f g i = absurd (omega arith)
 
 module _ (k l m o : ℕ) (a : k < 3) (b : l < 3) (c : m < 3) (d : o < 3) where
-  made-0 : kind-0 (k + 4 * l + 16 * m + 64 * o) ≡ k
+  pub made-0 : kind-0 (k + 4 * l + 16 * m + 64 * o) ≡ k
   made-0 = omega arith
 
-  made-1 : kind-1 (k + 4 * l + 16 * m + 64 * o) ≡ l
+  pub made-1 : kind-1 (k + 4 * l + 16 * m + 64 * o) ≡ l
   made-1 = omega arith
 
-  made-2 : kind-2 (k + 4 * l + 16 * m + 64 * o) ≡ m
+  pub made-2 : kind-2 (k + 4 * l + 16 * m + 64 * o) ≡ m
   made-2 = omega arith
 
-  made-3 : kind-3 (k + 4 * l + 16 * m + 64 * o) ≡ o
+  pub made-3 : kind-3 (k + 4 * l + 16 * m + 64 * o) ≡ o
   made-3 = omega arith
 
-map-take : (h : Param → Param) (n : ℕ) (xs : List Param) → take n (map h xs) ≡ map h (take n xs)
-map-take h zero xs = refl
-map-take h (suc n) [] = refl
-map-take h (suc n) (x ∷ xs) = ap (λ (ys : List Param). h x ∷ ys) (map-take h n xs)
+-- the first n of four parameters, where each of them is changed
+module _ (h : Param → Param) (x y z v x′ y′ z′ v′ : Param) where
+  take-changed : (n : ℕ) → (ltb 0 n ≡ true → x′ ≡ h x) → (ltb 1 n ≡ true → y′ ≡ h y) → (ltb 2 n ≡ true → z′ ≡ h z) → (ltb 3 n ≡ true → v′ ≡ h v)
+      → take n (x′ ∷ y′ ∷ z′ ∷ v′ ∷ []) ≡ map h (take n (x ∷ y ∷ z ∷ v ∷ []))
+  take-changed zero a b c d = refl
+  take-changed (suc zero) a b c d = rw (a refl)
+  take-changed (suc (suc zero)) a b c d = rw (a refl, b refl)
+  take-changed (suc (suc (suc zero))) a b c d = rw (a refl, b refl, c refl)
+  take-changed (suc (suc (suc (suc n)))) a b c d =
+      let more : (i : ℕ) → i < 4 → ltb i (suc (suc (suc (suc n)))) ≡ true = λ i l. lt-ltb i (suc (suc (suc (suc n)))) (omega arith) in
+      rw (take-nil {A = Param} n, a (more 0 (omega arith)), b (more 1 (omega arith)), c (more 2 (omega arith)), d (more 3 (omega arith)))
 
 module _ (r : Record) (K : prop-kind (r .kind) ≡ atomic) (form : room-form r ≡ true) where
   is-atom : Atom r
@@ -157,8 +199,10 @@ module _ (r : Record) (K : prop-kind (r .kind) ≡ atomic) (form : room-form r �
   kind-fits-3 = is-atom .known-3
 
   module _ (h : Param → Param) (k x l y m z o v : ℕ)
-      (p₀ : ChangedIs h (kind-0 (r .b)) (getD (r .parameters) 0 0) k x) (p₁ : ChangedIs h (kind-1 (r .b)) (getD (r .parameters) 1 0) l y)
-      (p₂ : ChangedIs h (kind-2 (r .b)) (getD (r .parameters) 2 0) m z) (p₃ : ChangedIs h (kind-3 (r .b)) (getD (r .parameters) 3 0) o v) where
+      (p₀ : ChangedIs (ltb 0 (r .count)) h (kind-0 (r .b)) (getD (r .parameters) 0 0) k x)
+      (p₁ : ChangedIs (ltb 1 (r .count)) h (kind-1 (r .b)) (getD (r .parameters) 1 0) l y)
+      (p₂ : ChangedIs (ltb 2 (r .count)) h (kind-2 (r .b)) (getD (r .parameters) 2 0) m z)
+      (p₃ : ChangedIs (ltb 3 (r .count)) h (kind-3 (r .b)) (getD (r .parameters) 3 0) o v) where
     abbrev field : ℕ
     field = k + 4 * l + 16 * m + 64 * o
 
@@ -178,16 +222,16 @@ module _ (r : Record) (K : prop-kind (r .kind) ≡ atomic) (form : room-form r �
     e₃ = made-3 k l m o (p₀ .known) (p₁ .known) (p₂ .known) (p₃ .known)
 
     rest-of-0 : r .count ≤ 0 → (k ≡ 0) × (x ≡ 0)
-    rest-of-0 i = let u = p₀ .unused (none-0 (r .count) (r .b) (is-atom .kinds) i) in (u .0, u .1 ∙ is-atom .rest-0 i)
+    rest-of-0 i = let u = p₀ .unused (le-ltb 0 (r .count) i) in (u .0 ∙ none-0 (r .count) (r .b) (is-atom .kinds) i, u .1 ∙ is-atom .rest-0 i)
 
     rest-of-1 : r .count ≤ 1 → (l ≡ 0) × (y ≡ 0)
-    rest-of-1 i = let u = p₁ .unused (none-1 (r .count) (r .b) (is-atom .kinds) i) in (u .0, u .1 ∙ is-atom .rest-1 i)
+    rest-of-1 i = let u = p₁ .unused (le-ltb 1 (r .count) i) in (u .0 ∙ none-1 (r .count) (r .b) (is-atom .kinds) i, u .1 ∙ is-atom .rest-1 i)
 
     rest-of-2 : r .count ≤ 2 → (m ≡ 0) × (z ≡ 0)
-    rest-of-2 i = let u = p₂ .unused (none-2 (r .count) (r .b) (is-atom .kinds) i) in (u .0, u .1 ∙ is-atom .rest-2 i)
+    rest-of-2 i = let u = p₂ .unused (le-ltb 2 (r .count) i) in (u .0 ∙ none-2 (r .count) (r .b) (is-atom .kinds) i, u .1 ∙ is-atom .rest-2 i)
 
     rest-of-3 : r .count ≤ 3 → (o ≡ 0) × (v ≡ 0)
-    rest-of-3 i = let u = p₃ .unused (none-3 (r .count) (r .b) (is-atom .kinds) i) in (u .0, u .1 ∙ is-atom .rest-3 i)
+    rest-of-3 i = let u = p₃ .unused (le-ltb 3 (r .count) i) in (u .0 ∙ none-3 (r .count) (r .b) (is-atom .kinds) i, u .1 ∙ is-atom .rest-3 i)
 
     new-is : Atom new-atom
     new-is =
@@ -209,9 +253,9 @@ module _ (r : Record) (K : prop-kind (r .kind) ≡ atomic) (form : room-form r �
     new-params : params new-atom ≡ map h (params r)
     unfolding params
     new-params =
-        ap (take (r .count))
-        (λ i. (ap (λ (j : ℕ). param j x) e₀ ∙ p₀ .means) i ∷ (ap (λ (j : ℕ). param j y) e₁ ∙ p₁ .means) i ∷ (ap (λ (j : ℕ). param j z) e₂ ∙ p₂ .means) i ∷ (ap (λ (j : ℕ). param j v) e₃ ∙ p₃ .means) i ∷ [])
-        ∙ map-take h (r .count) _
+        take-changed h _ _ _ _ _ _ _ _ (r .count)
+        (λ t. ap (λ (j : ℕ). param j x) e₀ ∙ p₀ .means t) (λ t. ap (λ (j : ℕ). param j y) e₁ ∙ p₁ .means t)
+        (λ t. ap (λ (j : ℕ). param j z) e₂ ∙ p₂ .means t) (λ t. ap (λ (j : ℕ). param j v) e₃ ∙ p₃ .means t)
 
     pub atom-changed : AtomIs h r new-atom
     atom-changed = record { kind = refl; predicate = refl; form = form-of new-atom K refl new-is; means = new-params }

@@ -7,3 +7,5 @@ pub mod Occurs
 pub mod Atoms
 pub mod Alike
 pub mod Copies
+pub mod Resolves
+pub mod Loads

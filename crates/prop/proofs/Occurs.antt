@@ -18,7 +18,7 @@ not-and : (a b : Bool) → not (a && b) ≡ (not a || not b)
 not-and true b = refl
 not-and false b = refl
 
-not-not : (a : Bool) → not (not a) ≡ a
+pub not-not : (a : Bool) → not (not a) ≡ a
 not-not true = refl
 not-not false = refl
 
@@ -63,7 +63,7 @@ module _ (s : ℕ) where
   atom-hit r a b c d ea eb ec ed = rw (ea, eb, ec, ed) (among (r .count) (kind-0 (r .b)) _ (kind-1 (r .b)) _ (kind-2 (r .b)) _ (kind-3 (r .b)) _)
 
 -- a test that does not ask how deep a parameter stands
-each-deep : (t : Param → Bool) (d e : ℕ) (P : Prop) → each (λ i. t) d P ≡ each (λ i. t) e P
+pub each-deep : (t : Param → Bool) (d e : ℕ) (P : Prop) → each (λ i. t) d P ≡ each (λ i. t) e P
 unfolding each
 each-deep t d e (const o b) = refl
 each-deep t d e (link o l A B) = ap₂ _&&_ (each-deep t d e A) (each-deep t d e B)

@@ -1,14 +1,16 @@
 -- Copies of a proposition, its parameters changed. Assumes nothing.
 use mathlib.Core.Path.{_≡_}
-use mathlib.Core.Bool.{true}
+use mathlib.Core.Bool.{Bool, true, false}
 use mathlib.Core.List.{List, map}
-use Prim.Native.Nat.{ℕ, _+_, _<_, _≤_}
+use Prim.Native.Nat.{ℕ, _+_, _*_, _<_, _≤_}
 use lib.ListN.{length}
 use Rattle.number.specs.declared.record.Record.{Record}
 use Rattle.number.specs.Limits.{most-propositions}
 use Rattle.number.specs.Records.{Put, Same}
-use Rattle.rules.specs.Prop.{Param, Prop, put-at, bind-at, copy, walk, size}
+use Rattle.rules.specs.Prop.{Param, Prop, datatype, put-at, bind-at, copy, walk, size}
+use Rattle.rules.specs.Context.{Ctx, settle}
 use Rattle.rules.specs.State.{limit}
+use Rattle.context.specs.Context.{ctxAt}
 use Rattle.prop.specs.declared.copy.Change.{Change}
 use Rattle.prop.specs.declared.copy.Change.the-variants as to
 use Rattle.prop.specs.declared.copy.Copied.{Copied}
@@ -18,16 +20,27 @@ use Rattle.prop.specs.Room.{param, params, roomAt, room-form, Arena}
 abbrev pub most-records : ℕ
 most-records = most-propositions + limit
 
--- what becomes of a parameter below d quantifiers
-unfoldable pub changed : Change → ℕ → Param → Param
-changed (to.Put s) = put-at (s .0)
-changed (to.Bind s) = bind-at (s .0)
+-- the first n entries of the work room as resolving asks for them: by name and serial, of whatever type
+abbrev pub names : List ℕ → ℕ → Ctx
+names w n = ctxAt (λ t. datatype 0) w n
 
--- kind l and number y are what becomes of kind k and number x
-pub record ChangedIs (h : Param → Param) (k x l y : ℕ) : Type 0 where
+-- what becomes of a parameter below d quantifiers
+unfoldable pub changed : List ℕ → Change → ℕ → Param → Param
+changed w (to.Put s) = put-at (s .0)
+changed w (to.Bind s) = bind-at (s .0)
+changed w (to.Resolve n) = λ d. settle (names w n)
+
+-- the entries that a change reads are in the work room
+abbrev pub ChangeIn : List ℕ → Change → Type 0
+ChangeIn w (to.Put s) = Unit {0}
+ChangeIn w (to.Bind s) = Unit {0}
+ChangeIn w (to.Resolve n) = 8 * n ≤ length w
+
+-- kind l and number y are what becomes of kind k and number x; where no parameter uses them, they stay
+pub record ChangedIs (used : Bool) (h : Param → Param) (k x l y : ℕ) : Type 0 where
   pub known : l < 3
-  pub unused : k ≡ 0 → (l ≡ 0) × (y ≡ x)
-  pub means : param l y ≡ h (param k x)
+  pub unused : used ≡ false → (l ≡ k) × (y ≡ x)
+  pub means : used ≡ true → param l y ≡ h (param k x)
 
 -- q is the atom r with its parameters changed
 pub record AtomIs (h : Param → Param) (r q : Record) : Type 0 where

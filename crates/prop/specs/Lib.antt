@@ -3,3 +3,5 @@ pub mod Head
 pub mod Size
 pub mod Compare
 pub mod Copy
+pub mod Resolve
+pub mod Load

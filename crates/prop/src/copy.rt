@@ -4,19 +4,25 @@ ghost use mathlib.Core.Bool.{true};
 ghost use Prim.Native.Nat.{ℕ, _+_, _*_, _<_, _≤_};
 ghost use lib.ListN.{length};
 ghost use Rattle.rules.specs.Prop.{size};
+ghost use Rattle.rules.specs.Context.{settle};
 ghost use Rattle.layout.specs.File.{atomic, «prop-kind»};
 ghost use Rattle.prop.specs.Room.{«room-form», roomAt, Arena};
-ghost use Rattle.prop.specs.Copy.{«most-records», changed, ChangedIs, AtomIs, MoreIs, CopiedIs};
+ghost use Rattle.prop.specs.Copy.{«most-records», names, changed, ChangeIn, ChangedIs, AtomIs, MoreIs, CopiedIs};
 use super::node::node_at;
+use context::identifier_context::Found;
+use context::identifier_context::get_by_name;
+use number::Name;
 use number::Proposition;
 use number::Serial;
 use number::record::Record;
 use number::record::put;
 
-// Put an identifier for a quantifier's parameters, or bind one by a quantifier around it.
+// Put an identifier for a quantifier's parameters, bind one by a quantifier around it, or put identifiers for free names: those of their
+// latest entries, of that many in the work room. (Only this last one reads the work room.)
 pub enum Change {
     Put(Serial),
     Bind(Serial),
+    Resolve(usize),
 }
 
 // The copy's number, and how many records there are with it.
@@ -25,16 +31,39 @@ pub struct Copied {
     pub count: u16,
 }
 
-struct Parameter {
-    kind: u16,
-    value: u16,
+pub struct Parameter {
+    pub kind: u16,
+    pub value: u16,
 }
 
-// One parameter, below d quantifiers.
-fn change_parameter(kind: u16, x: u16, d: u16, change: Change) -> Parameter
+// A free name becomes its identifier. (Where all names are known there is no serial, and each name has an entry.)
+fn settle(kind: u16, x: u16, work: &[u8], len: usize) -> Parameter
     requires { ⌜ kind < 3 ⌝ }
-    ensures { λ r. ⌜ ChangedIs (changed change d) kind x (r .kind) (r .value) ⌝ }
+    requires { ⌜ 8 * len ≤ length (now work) ⌝ }
+    ensures { λ r. ⌜ ChangedIs true (settle (names (now (work .entry)) len)) kind x (r .kind) (r .value) ⌝ }
 {
+    match kind {
+        0 => match get_by_name(work, len, Name(x)) {
+            Found::Held(e) => Parameter {
+                kind: 1,
+                value: e.serial.0,
+            },
+            Found::Nothing => Parameter { kind: 0, value: x },
+        },
+        1 => Parameter { kind: 0, value: x },
+        _ => Parameter { kind, value: x },
+    }
+}
+
+// One parameter, below d quantifiers. An unused one stays.
+fn change_parameter(used: bool, kind: u16, x: u16, d: u16, change: Change, work: &[u8]) -> Parameter
+    requires { ⌜ kind < 3 ⌝ }
+    requires { ⌜ ChangeIn (now work) change ⌝ }
+    ensures { λ r. ⌜ ChangedIs used (changed (now (work .entry)) change d) kind x (r .kind) (r .value) ⌝ }
+{
+    if !used {
+        return Parameter { kind, value: x };
+    }
     match change {
         Change::Put(s) => {
             if (kind == 2) & (x == d) {
@@ -53,20 +82,23 @@ fn change_parameter(kind: u16, x: u16, d: u16, change: Change) -> Parameter
                 Parameter { kind, value: x }
             }
         }
+        Change::Resolve(len) => settle(kind, x, work, len),
     }
 }
 
-// An atom's record with its parameters changed. An unused one is a free name's, and stays.
-fn change_atom(r: Record, d: u16, change: Change) -> Record
+// An atom's record with its parameters changed.
+fn change_atom(r: Record, d: u16, change: Change, work: &[u8]) -> Record
     requires { ⌜ «prop-kind» (r .kind) ≡ atomic ⌝ }
     requires { ⌜ «room-form» r ≡ true ⌝ }
-    ensures { λ q. ⌜ AtomIs (changed change d) r q ⌝ }
+    requires { ⌜ ChangeIn (now work) change ⌝ }
+    ensures { λ q. ⌜ AtomIs (changed (now (work .entry)) change d) r q ⌝ }
 {
+    let n = r.count;
     let b = r.b;
-    let p = change_parameter(b % 4, r.parameters[0], d, change);
-    let q = change_parameter(b / 4 % 4, r.parameters[1], d, change);
-    let s = change_parameter(b / 16 % 4, r.parameters[2], d, change);
-    let t = change_parameter(b / 64 % 4, r.parameters[3], d, change);
+    let p = change_parameter(0 < n, b % 4, r.parameters[0], d, change, work);
+    let q = change_parameter(1 < n, b / 4 % 4, r.parameters[1], d, change, work);
+    let s = change_parameter(2 < n, b / 16 % 4, r.parameters[2], d, change, work);
+    let t = change_parameter(3 < n, b / 64 % 4, r.parameters[3], d, change, work);
     Record {
         kind: r.kind,
         count: r.count,
@@ -78,7 +110,7 @@ fn change_atom(r: Record, d: u16, change: Change) -> Record
 }
 
 // One record more.
-fn one_more(room: &mut [u8], count: u16, r: Record) -> Copied
+pub fn one_more(room: &mut [u8], count: u16, r: Record) -> Copied
     requires { ⌜ count < «most-records» ⌝ }
     requires { ⌜ 16 * «most-records» ≤ length (now room) ⌝ }
     ensures { λ o. ⌜ MoreIs (now (room .entry)) count r (now (room .exit)) o ⌝ }
@@ -93,21 +125,29 @@ fn one_more(room: &mut [u8], count: u16, r: Record) -> Copied
 
 // A copy of proposition n, which stands below d quantifiers: children before parents, after the first `count` records. The caller has counted
 // the nodes, so there is room for it.
-pub fn copy(room: &mut [u8], count: u16, n: Proposition, d: u16, change: Change) -> Copied
+pub fn copy(
+    room: &mut [u8],
+    count: u16,
+    n: Proposition,
+    d: u16,
+    change: Change,
+    work: &[u8],
+) -> Copied
     requires { ⌜ Arena (now room) count ⌝ }
     requires { ⌜ n .0 < count ⌝ }
     requires { ⌜ d + n .0 ≤ 65535 ⌝ }
     requires { ⌜ ((tables : ℕ) → count + size (roomAt tables (now room) (n .0)) ≤ «most-records») ⌝ }
     requires { ⌜ 16 * «most-records» ≤ length (now room) ⌝ }
-    ensures { λ o. ⌜ CopiedIs (now (room .entry)) count (n .0) (changed change) d (now (room .exit)) o ⌝ }
+    requires { ⌜ ChangeIn (now work) change ⌝ }
+    ensures { λ o. ⌜ CopiedIs (now (room .entry)) count (n .0) (changed (now (work .entry)) change) d (now (room .exit)) o ⌝ }
 {
     let r = node_at(room, count, n);
     let kind = r.kind;
     match kind {
         0..=1 => one_more(room, count, r),
         2..=4 => {
-            let first = copy(room, count, Proposition(r.a), d, change);
-            let second = copy(room, first.count, Proposition(r.b), d, change);
+            let first = copy(room, count, Proposition(r.a), d, change, work);
+            let second = copy(room, first.count, Proposition(r.b), d, change, work);
             one_more(
                 room,
                 second.count,
@@ -122,7 +162,7 @@ pub fn copy(room: &mut [u8], count: u16, n: Proposition, d: u16, change: Change)
             )
         }
         5..=6 => {
-            let body = copy(room, count, Proposition(r.c), d + 1, change);
+            let body = copy(room, count, Proposition(r.c), d + 1, change, work);
             one_more(
                 room,
                 body.count,
@@ -137,7 +177,7 @@ pub fn copy(room: &mut [u8], count: u16, n: Proposition, d: u16, change: Change)
             )
         }
         7..=255 => {
-            let q = change_atom(r, d, change);
+            let q = change_atom(r, d, change, work);
             one_more(room, count, q)
         }
     }

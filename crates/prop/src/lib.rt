@@ -5,5 +5,7 @@ pub mod compare;
 pub mod copy;
 pub mod head;
 pub mod holds;
+pub mod load;
 pub mod node;
+pub mod resolve;
 pub mod size;

@@ -9,3 +9,4 @@ pub mod Alike
 pub mod Copies
 pub mod Resolves
 pub mod Loads
+pub mod Makings

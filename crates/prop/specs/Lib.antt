@@ -5,3 +5,4 @@ pub mod Compare
 pub mod Copy
 pub mod Resolve
 pub mod Load
+pub mod Make

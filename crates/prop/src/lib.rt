@@ -6,6 +6,7 @@ pub mod copy;
 pub mod head;
 pub mod holds;
 pub mod load;
+pub mod make;
 pub mod node;
 pub mod resolve;
 pub mod size;

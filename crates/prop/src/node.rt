@@ -9,6 +9,8 @@ use number::record::record_at;
 
 pub const TRUE: u8 = 0;
 
+pub const FALSE: u8 = 1;
+
 pub const AND: u8 = 2;
 
 pub const OR: u8 = 3;

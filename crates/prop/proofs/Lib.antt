@@ -6,7 +6,3 @@ pub mod Counts
 pub mod Occurs
 pub mod Atoms
 pub mod Alike
-pub mod Copies
-pub mod Resolves
-pub mod Loads
-pub mod Makings

@@ -2,11 +2,7 @@
 // number stands for never changes.
 
 pub mod compare;
-pub mod copy;
 pub mod head;
 pub mod holds;
-pub mod load;
-pub mod make;
 pub mod node;
-pub mod resolve;
 pub mod size;

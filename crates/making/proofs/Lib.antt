@@ -1,0 +1,5 @@
+-- What the proofs of several functions use.
+pub mod Copies
+pub mod Loads
+pub mod Resolves
+pub mod Makings

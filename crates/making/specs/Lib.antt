@@ -1,0 +1,4 @@
+pub mod Copy
+pub mod Load
+pub mod Make
+pub mod Resolve

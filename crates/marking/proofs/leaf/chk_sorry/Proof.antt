@@ -1,0 +1,53 @@
+use native.Mathlib.Omega.{arith}
+use Rattle.marking.proofs.LeafRules.{sorry-fits}
+use borrow.Author.Needs.{needs}
+use Rattle.marking.proofs.leaf.chk_sorry.Statement.{statement}
+use Rattle.marking.proofs.leaf.chk_sorry.Tie as tie
+
+node-requires : tie.Need-node-requires
+node-requires c κs = search needs
+
+put-node-requires : tie.Need-put-node-requires
+put-node-requires c κs = search needs
+
+goal-of-requires : tie.Need-goal-of-requires
+goal-of-requires c κs = search needs
+
+put-goal-requires : tie.Need-put-goal-requires
+put-goal-requires c κs = search needs
+
+add-t16 : tie.Need-add-t16
+add-t16 c = omega (arith, c .before .before .before .before .before .before .before .before .before .before .before .before .before .before .pre)
+
+add-t17 : tie.Need-add-t17
+add-t17 c = omega (arith, c .before .before .before .before .before .before .before .before .before .before .before .before .before .before .before .pre)
+
+same-length : tie.Need-same-length
+same-length c = search needs
+
+same-length-2 : tie.Need-same-length-2
+same-length-2 c = search needs
+
+returns : tie.Need-returns
+returns c =
+    λ ps w rd.
+    let p = c .before .before .before .before .before .before .before .before .before .before .before .before .before .before .before .pre in
+    let among = p .0 in
+    let kind = p .1 .1 .1 in
+    let node = c .before .before .before .before .before .before .before .before .before .before .node .ensures in
+    let put = c .before .before .before .before .before .before .before .before .before .put-node .ensures in
+    search (sorry-fits rd)
+
+pub chk-sorry-spec : {M : Type 1} → statement M
+chk-sorry-spec =
+    tie.close
+    (tie.spec
+    node-requires
+    put-node-requires
+    goal-of-requires
+    put-goal-requires
+    add-t16
+    add-t17
+    same-length
+    same-length-2
+    returns)

@@ -1,0 +1,6 @@
+pub mod Rooms
+pub mod Trees
+pub mod Contract
+pub mod Heads
+pub mod Steps
+pub mod Shift

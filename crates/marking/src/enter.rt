@@ -1,0 +1,68 @@
+// New identifiers and their entries.
+ghost use mathlib.Core.Path.{_≡_};
+ghost use Prim.Native.Nat.{_+_, _*_, _<_, _≤_};
+ghost use lib.ListN.{length};
+ghost use Rattle.context.specs.Context.{Inserted};
+ghost use Rattle.marking.specs.Rooms.{numbered, deeper};
+use super::state::State;
+use context::identifier_context::Entry;
+use context::identifier_context::insert;
+use number::Name;
+use number::Type;
+use number::counter::Counter;
+use number::identifier::Identifier;
+use number::identifier::create;
+
+pub struct Fresh {
+    pub identifier: Identifier,
+    pub state: State,
+}
+
+// A new identifier of that name: serials count from 0 in order of creation.
+pub fn new_identifier(st: State, name: Name) -> Fresh
+    requires { ⌜ st .serials < 65535 ⌝ }
+    ensures { λ r. ⌜ (r .identifier .name ≡ name) × (r .identifier .serial .0 ≡ st .serials) × (r .state ≡ numbered st) ⌝ }
+{
+    let made = create(Counter { count: st.serials }, name);
+    let identifier = made.identifier;
+    Fresh {
+        identifier,
+        state: State {
+            records: st.records,
+            goals: st.goals,
+            serials: made.counter.count,
+            made: st.made,
+            context: st.context,
+        },
+    }
+}
+
+// The context gets an entry.
+pub fn enter(work: &mut [u8], st: State, identifier: Identifier, typ: Type) -> State
+    requires { ⌜ 8 * (st .context) + 8 ≤ length (now work) ⌝ }
+    requires { ⌜ st .context < 65535 ⌝ }
+    ensures { λ r. ⌜ (r ≡ deeper st) × Inserted (now (work .entry)) (st .context) (record { name = identifier .name; serial = identifier .serial; typ = typ }) (now (work .exit)) ⌝ }
+{
+    let name = identifier.name;
+    let serial = identifier.serial;
+    insert(work, st.context as usize, Entry { name, serial, typ });
+    State {
+        records: st.records,
+        goals: st.goals,
+        serials: st.serials,
+        made: st.made,
+        context: st.context + 1,
+    }
+}
+
+// A new identifier of that name, and its entry.
+pub fn enter_fresh(work: &mut [u8], st: State, name: Name, typ: Type) -> State
+    requires { ⌜ 8 * (st .context) + 8 ≤ length (now work) ⌝ }
+    requires { ⌜ (st .context < 65535) × (st .serials < 65535) ⌝ }
+    ensures { λ r. ⌜ (r ≡ deeper (numbered st)) × Inserted (now (work .entry)) (st .context) (record { name = name; serial = record { 0 = st .serials }; typ = typ }) (now (work .exit)) ⌝ }
+{
+    let f = new_identifier(st, name);
+    let identifier = f.identifier;
+    let s = f.state;
+    enter(work, s, identifier, typ)
+}

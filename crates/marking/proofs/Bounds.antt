@@ -1,7 +1,7 @@
 -- What `count_of`, `inner` and `object_of` ask, from what a run begins with. Assumes nothing.
 use mathlib.Core.Path.{_≡_}
 use mathlib.Core.List.{List}
-use Prim.Native.Nat.{ℕ, _*_, _<_, _≤_}
+use Prim.Native.Nat.{ℕ, _+_, _*_, _<_, _≤_}
 use native.Mathlib.Omega.{arith}
 use lib.ListN.{length}
 use Rattle.table.specs.Reading.{termAt}
@@ -25,3 +25,13 @@ ready-inner {l} {k = k} rd s e = omega (arith, rd .records, nodes-some (termAt l
 -- the entries are in the room
 pub ready-work : {l : List ℕ} {R : Rooms} {k : ℕ} {st : State} → Ready l R k st → 8 * (st .context) ≤ length (R .work)
 ready-work rd = omega (arith, rd .context, rd .base .work-room)
+
+-- a record, and a goal, has its place
+pub ready-tree : {l : List ℕ} {R : Rooms} {k : ℕ} {st : State} → Ready l R k st → 16 * (st .records) + 16 ≤ length (R .tree)
+ready-tree {l} {k = k} rd = omega (arith, rd .records, nodes-some (termAt l k), rd .base .tree-room)
+
+pub ready-goals : {l : List ℕ} {R : Rooms} {k : ℕ} {st : State} → Ready l R k st → 8 * (st .goals) + 8 ≤ length (R .goals)
+ready-goals {l} {k = k} rd = omega (arith, rd .goals, nodes-some (termAt l k), rd .base .goals-room)
+
+pub ready-goal : {l : List ℕ} {R : Rooms} {k : ℕ} {st : State} → Ready l R k st → st .goals < 65535
+ready-goal {l} {k = k} rd = omega (arith, rd .goals, nodes-some (termAt l k))

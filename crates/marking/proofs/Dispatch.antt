@@ -47,6 +47,31 @@ synthesizes-as l k r j e f h = subst⁻¹ (λ (i : ℕ). synthesizes i ≡ true)
 pub synthesizes-between : (l : List ℕ) (k : ℕ) (r : TermRecord) → r ≡ termRecord l k → 1 < r .kind → r .kind < 4 → synthesizes (termRecord l k .kind) ≡ true
 synthesizes-between l k r e f g = let b = kind-between l k r 1 4 e f g in synthesizes-two (termRecord l k .kind) (b .0) (b .1)
 
+pub synthesizes-none : (l : List ℕ) (k : ℕ) (r : TermRecord) → r ≡ termRecord l k → r .kind ≡ 0 → synthesizes (termRecord l k .kind) ≡ true
+unfolding synthesizes
+synthesizes-none l k r e f = synthesizes-as l k r 0 e f refl
+
+pub synthesizes-five : (l : List ℕ) (k : ℕ) (r : TermRecord) → r ≡ termRecord l k → r .kind ≡ 5 → synthesizes (termRecord l k .kind) ≡ true
+unfolding synthesizes
+synthesizes-five l k r e f = synthesizes-as l k r 5 e f refl
+
+-- NUMBERS between those that a match names
+above : (m j : ℕ) → m ≤ j → (j ≡ m → ⊥) → m + 1 ≤ j
+above m j h n = at (eq-or-lt-of-le h)
+  where
+    at : (m ≡ j) ⊎ (m < j) → m + 1 ≤ j
+    at (inl e) = absurd (n (sym e))
+    at (inr l) = omega arith
+
+pub past-one : (j : ℕ) → (j ≡ 0 → ⊥) → (j ≡ 1 → ⊥) → 1 < j
+past-one j a b = above 1 j (above 0 j (omega arith) a) b
+
+pub past-six : (j : ℕ) → 4 ≤ j → (j ≡ 4 → ⊥) → (j ≡ 5 → ⊥) → (j ≡ 6 → ⊥) → 6 < j
+past-six j h a b c = above 6 j (above 5 j (above 4 j h a) b) c
+
+pub past-twelve : (j : ℕ) → 9 ≤ j → (j ≡ 9 → ⊥) → (j ≡ 10 → ⊥) → (j ≡ 11 → ⊥) → (j ≡ 12 → ⊥) → 12 < j
+past-twelve j h a b c d = above 12 j (above 11 j (above 10 j (above 9 j h a) b) c) d
+
 -- NO OTHER KIND is in a table
 pub kind-known : {l : List ℕ} → Table l → (k : ℕ) → k < terms l → termRecord l k .kind < 14
 unfolding term-shape
@@ -62,6 +87,13 @@ kind-known {l} table k h = at
 
     at : termRecord l k .kind < 14
     at = let p = past in omega arith
+
+-- so the last arm of a match is never taken
+pub kind-never : {l : List ℕ} {R : Rooms} {k : ℕ} {st : State} → Ready l R k st → (r : TermRecord) → r ≡ termRecord l k → 12 < r .kind → (r .kind ≡ 13 → ⊥) → ⊥
+kind-never {l} {k = k} rd r e h n =
+    let known = kind-known (rd .base .table) k (rd .here) in
+    let past : 14 ≤ termRecord l k .kind = subst (λ (r : TermRecord). 14 ≤ r .kind) e (above 13 (r .kind) h n) in
+    omega arith
 
 -- WHAT DOES NOT SYNTHESIZE
 module _ {l : List ℕ} {R : Rooms} {k : ℕ} {st : State} (rd : Ready l R k st) (r : TermRecord) (er : r ≡ termRecord l k) where

@@ -26,3 +26,4 @@ pub mod Lets
 pub mod Cases
 pub mod Comparisons
 pub mod Applications
+pub mod Starts

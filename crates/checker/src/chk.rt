@@ -97,7 +97,7 @@ pub fn check(
 }
 
 // Ident, projections, Application: what is synthesized is compared. Alpha-equal gets an AlphaEq above it.
-pub fn chk_syn(
+fn chk_syn(
     file: &[u8],
     tree: &mut [u8],
     goals: &mut [u8],
@@ -131,7 +131,7 @@ pub fn chk_syn(
 }
 
 // Pair: against an And, part by part.
-pub fn chk_pair(
+fn chk_pair(
     file: &[u8],
     tree: &mut [u8],
     goals: &mut [u8],
@@ -169,7 +169,7 @@ pub fn chk_pair(
 }
 
 // Pair against an Exists: the witness is a known Ident, and is put into the body before it is checked itself.
-pub fn chk_ex(
+fn chk_ex(
     file: &[u8],
     tree: &mut [u8],
     goals: &mut [u8],
@@ -218,7 +218,7 @@ pub fn chk_ex(
 }
 
 // Function: the serial, the expected Impl or ForAll, the annotation, the body, whose entry has the expected type.
-pub fn chk_fun(
+fn chk_fun(
     file: &[u8],
     tree: &mut [u8],
     goals: &mut [u8],
@@ -260,7 +260,7 @@ pub fn chk_fun(
 }
 
 // LetIn: the head is an Exists, else 12; what is wanted holds no witness.
-pub fn chk_let(
+fn chk_let(
     file: &[u8],
     tree: &mut [u8],
     goals: &mut [u8],
@@ -302,7 +302,7 @@ pub fn chk_let(
 }
 
 // OrLeft and OrRight: against an Or. The rules have their kinds' numbers.
-pub fn chk_or(
+fn chk_or(
     file: &[u8],
     tree: &mut [u8],
     goals: &mut [u8],
@@ -335,7 +335,7 @@ pub fn chk_or(
 }
 
 // Case: the head is an Or, else 12; a serial and an arm, twice. The right arm does not have the left's hypothesis.
-pub fn chk_case(
+fn chk_case(
     file: &[u8],
     tree: &mut [u8],
     goals: &mut [u8],
@@ -383,7 +383,7 @@ pub fn chk_case(
 }
 
 // Abort: its False is made, the body is held to it, and only then comes the test for a datatype.
-pub fn chk_abort(
+fn chk_abort(
     file: &[u8],
     tree: &mut [u8],
     goals: &mut [u8],
@@ -419,7 +419,7 @@ pub fn chk_abort(
 }
 
 // TypeAscription: compared, and the inside is held to what is wanted. It has no node of its own.
-pub fn chk_as(
+fn chk_as(
     file: &[u8],
     tree: &mut [u8],
     goals: &mut [u8],

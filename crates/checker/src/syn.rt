@@ -85,7 +85,7 @@ pub fn synthesize(
 }
 
 // Pair: neither part may be a datatype, the second is tested first; their And is made.
-pub fn syn_pair(
+fn syn_pair(
     file: &[u8],
     tree: &mut [u8],
     goals: &mut [u8],
@@ -126,7 +126,7 @@ pub fn syn_pair(
 }
 
 // ProjectFst and ProjectSnd: of an And, else 22 at the projection. Their rules' numbers are one more than their kinds'.
-pub fn syn_proj(
+fn syn_proj(
     file: &[u8],
     tree: &mut [u8],
     goals: &mut [u8],
@@ -156,7 +156,7 @@ pub fn syn_proj(
 }
 
 // Function: an annotation is needed; the body, which is no datatype; then an Impl or a ForAll is made.
-pub fn syn_fun(
+fn syn_fun(
     file: &[u8],
     tree: &mut [u8],
     goals: &mut [u8],
@@ -201,7 +201,7 @@ pub fn syn_fun(
 }
 
 // Application: of an Impl, to what fits its left part; or of a ForAll, to a known Ident of its datatype.
-pub fn syn_app(
+fn syn_app(
     file: &[u8],
     tree: &mut [u8],
     goals: &mut [u8],
@@ -243,7 +243,7 @@ pub fn syn_app(
 
 // The argument x of the function f, whose type is no Impl, in the application k: the type is a ForAll, else 22; the object, once it is checked, is put
 // into its body. The application's own node is left to `syn_app`.
-pub fn syn_all(
+fn syn_all(
     file: &[u8],
     tree: &mut [u8],
     goals: &mut [u8],
@@ -288,7 +288,7 @@ pub fn syn_all(
 }
 
 // LetIn: the head is an Exists, else 22; what the body answers holds no witness.
-pub fn syn_let(
+fn syn_let(
     file: &[u8],
     tree: &mut [u8],
     goals: &mut [u8],
@@ -329,7 +329,7 @@ pub fn syn_let(
 }
 
 // Case: the arms are alpha-equal, else 26. It concludes the left arm's wording and answers the right's.
-pub fn syn_case(
+fn syn_case(
     file: &[u8],
     tree: &mut [u8],
     goals: &mut [u8],
@@ -378,7 +378,7 @@ pub fn syn_case(
 }
 
 // TypeAscription: the inside is held to the annotation, which is answered. It has no node of its own.
-pub fn syn_as(
+fn syn_as(
     file: &[u8],
     tree: &mut [u8],
     goals: &mut [u8],

@@ -1,0 +1,101 @@
+-- The root of a table that passes its tests is run as the rules run it. Assumes nothing.
+use mathlib.Core.Path.{_≡_, refl, ap, ap₂, sym, subst, _∙_}
+use mathlib.Core.List.{List, []}
+use Prim.Native.Nat.{ℕ, _+_, _*_, _<_, _≤_}
+use native.Mathlib.Omega.{arith}
+use lib.ListN.{length}
+use Rattle.number.specs.declared.Type.{«Type» as Sort}
+use Rattle.number.specs.declared.Type.the-variants as sort
+use Rattle.number.specs.Records.{recordAt, Same}
+use Rattle.layout.specs.File.{props, terms, expected}
+use Rattle.rules.specs.Prop.{Ty, prop}
+use Rattle.rules.specs.Context.{Ctx}
+use Rattle.rules.specs.State.{limit, start}
+use Rattle.rules.specs.Term.{nodes}
+use Rattle.rules.specs.Tree.{records, holes}
+use Rattle.rules.specs.Step.{check, Out, refused, ok, Answer}
+use Rattle.rules.specs.Rules.{run}
+use Rattle.rules.proofs.Spent.{Spent, run-spends}
+use Rattle.table.specs.declared.Purpose.the-variants.{Check}
+use Rattle.table.specs.Tests.{test-room}
+use Rattle.table.specs.Passing.{Counted, Formed, WellLinked, Good}
+use Rattle.table.specs.Reading.{propAt, termAt}
+use Rattle.table.proofs.Counting.{nodes-root}
+use Rattle.table.proofs.Links.{expected-in}
+use Rattle.table.proofs.Passing.{good-passed}
+use Rattle.prop.specs.Room.{Arena}
+use Rattle.context.proofs.Laws.{ctx-none}
+use Rattle.making.specs.Copy.{most-records}
+use Rattle.making.specs.Load as load
+use Rattle.marking.specs.declared.state.State.{State}
+use Rattle.marking.specs.declared.state.Checked.{Checked}
+use Rattle.marking.specs.declared.state.Checked.the-variants as checked
+use Rattle.marking.specs.Rooms.{Rooms, rooms, reads, ctxOf, stOf, countOf, Loaded}
+use Rattle.marking.specs.Contract.{Ready, Accepts, CheckMeets, runOf}
+use Rattle.marking.proofs.Starts.{nothing, ready-root}
+use Rattle.entry.specs.Mark.{root-run, Holds}
+use Rattle.entry.specs.Ran.{Exact, Ran, RanAs}
+
+module _ (l : List ℕ) (good : Good Check l) where
+  -- what `load` asks for
+  pub loadable : Counted l × (Formed l × WellLinked l)
+  loadable =
+      let p = good-passed good in
+      (p .counted, (p .formed, record { purpose = Check; linked = p .linked }))
+
+  pub header-there : 16 ≤ length l
+  header-there = omega (arith, good-passed good .counted .long)
+
+  pub few-props : props l ≤ most-records
+  few-props = omega (arith, good-passed good .counted .propositions)
+
+  pub goal-there : (n : ℕ) → n ≡ expected l → n < countOf l nothing
+  goal-there n e = omega (arith, expected-in (good-passed good .linked))
+
+  module _ (old : List ℕ) (R : Rooms) (e : Exact R) (loaded : load.Loaded l old (R .props)) where
+    first-loaded : Loaded l (R .props) (countOf l nothing)
+    first-loaded =
+        record {
+          arena = subst (λ (c : ℕ). Arena (R .props) c) (omega arith) (loaded .arena);
+          first = omega arith;
+          table = loaded .means;
+          long = omega (arith, e .props);
+        }
+
+    pub ready : Ready l R 0 nothing
+    ready = ready-root R good first-loaded (omega (arith, e .tree)) (omega (arith, e .goals)) (omega (arith, e .work))
+
+    -- the code's run is the rules'
+    root-is : runOf l R 0 (check (reads l (R .props) (sort.Proposition (record { 0 = expected l })))) nothing ≡ root-run l
+    root-is =
+        ap₂ (λ (A : Ty) (Γ : Ctx). run (termAt l 0) (check A) Γ start) (ap prop (loaded .means (expected l) (expected-in (good-passed good .linked))))
+        (ctx-none (reads l (R .props)) (R .work))
+
+    fits : (R' : Rooms) (st : State) → Accepts l R R' nothing st (root-run l) → Ran l R' st
+    fits R' st h =
+        let p = good-passed good in
+        let a = h .answer in
+        let left = h .left in
+        let spent = run-spends (termAt l 0) _ _ _ a (stOf st) (h .accepts) in
+        let all : nodes (termAt l 0) ≡ terms l = nodes-root (p .formed) (p .linked) (omega (arith, p .counted .some)) in
+        record {
+          answer = a;
+          accepts = h .accepts;
+          holds =
+              record {
+                trees = left .trees;
+                table = λ n k. left .grown .props n (omega arith) ∙ loaded .all .records n k;
+                made = left .grown .arena;
+                tree-room = omega (arith, spent .records, all, p .counted .few, left .grown .tree-long, e .tree);
+                goals-room = omega (arith, spent .holes, all, p .counted .few, left .grown .goals-long, e .goals);
+              };
+          records = omega (arith, left .records);
+          goals = omega (arith, left .goals);
+        }
+
+    as-ran : (R' : Rooms) (r : Checked) → CheckMeets l R R' 0 (sort.Proposition (record { 0 = expected l })) nothing r → RanAs l R' r
+    as-ran R' (checked.Fits st) h = fits R' st (subst (λ (o : Out Answer). Accepts l R R' nothing st o) root-is h)
+    as-ran R' (checked.Refused n p) h = sym root-is ∙ h
+
+    pub ran : (R' : Rooms) (r : Checked) (n : ℕ) → n ≡ expected l → CheckMeets l R R' 0 (sort.Proposition (record { 0 = n })) nothing r → RanAs l R' r
+    ran R' r n e h = as-ran R' r (subst (λ (n : ℕ). CheckMeets l R R' 0 (sort.Proposition (record { 0 = n })) nothing r) e h)

@@ -1,0 +1,151 @@
+// The entry: any bytes as a table, any rooms. The rooms and the table are tested, the propositions loaded, the root is held to the expected
+// proposition, and the rooms are left clean.
+ghost use mathlib.Core.Path.{_≡_};
+ghost use Prim.Native.Nat.{_+_, _≤_};
+ghost use lib.ListN.{length};
+ghost use Rattle.layout.specs.File.{props};
+ghost use Rattle.table.specs.declared.Purpose.«the-variants».{Check};
+ghost use Rattle.table.specs.Passing.{Good};
+ghost use Rattle.marking.specs.Rooms.{rooms};
+ghost use Rattle.entry.specs.Mark.{«root-run», «table-run», MarkedAs, Marks};
+ghost use Rattle.entry.specs.Ran.{Exact, RanAs};
+use checker::chk;
+use layout::header::expected_field;
+use making::load::load;
+use marking::state::Checked;
+use marking::state::State;
+use marking::state::count_of;
+use number::Term;
+use number::Type;
+use rooms::GOALS;
+use rooms::PROPOSITIONS;
+use rooms::TREE;
+use rooms::WORK;
+use rooms::clear_rest;
+use rooms::clear_rooms;
+use rooms::long_enough;
+use table::Purpose;
+use table::Verdict;
+use table::test_table;
+
+pub mod rooms;
+
+// How many tree records, goals, serials and propositions a run made.
+pub struct Counts {
+    pub records: u16,
+    pub goals: u16,
+    pub serials: u16,
+    pub made: u16,
+}
+
+// A refusal has document 01's number and place.
+pub enum Mark {
+    Accepted(Counts),
+    Refused(u8, u16),
+}
+
+// The run of a table that passes its tests: its root, held to what it expects, with nothing made yet and an empty context.
+fn run(
+    file: &[u8],
+    tree: &mut [u8],
+    goals: &mut [u8],
+    propositions: &mut [u8],
+    work: &mut [u8],
+) -> Checked
+    requires { ⌜ Good Check (now file) ⌝ }
+    requires { ⌜ Exact (rooms (now tree) (now goals) (now propositions) (now work)) ⌝ }
+    ensures { λ r. ⌜ RanAs (now (file .entry)) (rooms (now (tree .exit)) (now (goals .exit)) (now (propositions .exit)) (now (work .exit))) r ⌝ }
+{
+    load(file, work, propositions);
+    chk::check(
+        file,
+        tree,
+        goals,
+        propositions,
+        work,
+        Term(0),
+        Type::Proposition(expected_field(file)),
+        State {
+            records: 0,
+            goals: 0,
+            serials: 0,
+            made: 0,
+            context: 0,
+        },
+    )
+}
+
+// The mark, and the rooms cleaned after the run.
+fn finish(
+    file: &[u8],
+    tree: &mut [u8],
+    goals: &mut [u8],
+    propositions: &mut [u8],
+    work: &mut [u8],
+    answer: Checked,
+) -> Mark
+    requires { ⌜ 16 ≤ length (now file) ⌝ }
+    requires { ⌜ Exact (rooms (now tree) (now goals) (now propositions) (now work)) ⌝ }
+    requires { ⌜ RanAs (now file) (rooms (now tree) (now goals) (now propositions) (now work)) answer ⌝ }
+    ensures { λ m. ⌜ MarkedAs (now (file .entry)) (rooms (now (tree .entry)) (now (goals .entry)) (now (propositions .entry)) (now (work .entry))) (rooms (now (tree .exit)) (now (goals .exit)) (now (propositions .exit)) (now (work .exit))) («root-run» (now (file .entry))) m ⌝ }
+{
+    match answer {
+        Checked::Refused(n, place) => {
+            clear_rooms(tree, goals, propositions, work);
+            Mark::Refused(n, place.0)
+        }
+        Checked::Fits(st) => {
+            let count = count_of(file, st);
+            clear_rest(tree, goals, propositions, work, st.records, st.goals, count);
+            Mark::Accepted(Counts {
+                records: st.records,
+                goals: st.goals,
+                serials: st.serials,
+                made: st.made,
+            })
+        }
+    }
+}
+
+// The mark of any bytes, in rooms of just the listed sizes.
+fn check_table(
+    file: &[u8],
+    tree: &mut [u8],
+    goals: &mut [u8],
+    propositions: &mut [u8],
+    work: &mut [u8],
+) -> Mark
+    requires { ⌜ Exact (rooms (now tree) (now goals) (now propositions) (now work)) ⌝ }
+    ensures { λ m. ⌜ MarkedAs (now (file .entry)) (rooms (now (tree .entry)) (now (goals .entry)) (now (propositions .entry)) (now (work .entry))) (rooms (now (tree .exit)) (now (goals .exit)) (now (propositions .exit)) (now (work .exit))) («table-run» (now (file .entry))) m ⌝ }
+{
+    if let Verdict::Refused(n, place) = test_table(file, work, Purpose::Check) {
+        clear_rooms(tree, goals, propositions, work);
+        return Mark::Refused(n, place);
+    }
+    let answer = run(file, tree, goals, propositions, work);
+    finish(file, tree, goals, propositions, work, answer)
+}
+
+// The mark of any bytes in any rooms.
+pub fn check(
+    file: &[u8],
+    tree: &mut [u8],
+    goals: &mut [u8],
+    propositions: &mut [u8],
+    work: &mut [u8],
+) -> Mark
+    ensures { λ m. ⌜ Marks (now (file .entry)) (rooms (now (tree .entry)) (now (goals .entry)) (now (propositions .entry)) (now (work .entry))) (rooms (now (tree .exit)) (now (goals .exit)) (now (propositions .exit)) (now (work .exit))) m ⌝ }
+{
+    if long_enough(tree, goals, propositions, work) {
+        check_table(
+            file,
+            &mut tree[..TREE],
+            &mut goals[..GOALS],
+            &mut propositions[..PROPOSITIONS],
+            &mut work[..WORK],
+        )
+    } else {
+        clear_rooms(tree, goals, propositions, work);
+        Mark::Refused(1, 0)
+    }
+}

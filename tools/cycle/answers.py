@@ -102,13 +102,13 @@ A['chk_ex']={'use':COMMON+[M+'Moves.{loaded-arena, loaded-type, loaded-left, put
 ER='(@After-term-record .term-record .ensures)'
 def sub(fact): return f"(rank-same _ _ 5 4 _ (@Start .pre .0) (omega arith), ({RD}, (@Start .pre .1 .1, {fact})))"
 def key(j,i): return f"kind-is _ _ _ {j} {ER} (@At-match-keys{i} .match .keys{i})"
-A['check']={'use':['use mathlib.Core.Path.{refl}','use native.Mathlib.Omega.{arith}',BOUNDS,M+'Ranks.{rank-same}',M+'Dispatch.{kind-is, kind-between, synthesizes-none, synthesizes-five, synthesizes-between, past-one, past-six, past-twelve, kind-never}'],
+A['check']={'use':['use mathlib.Core.Path.{refl}','use native.Mathlib.Omega.{arith}',BOUNDS[:-1]+', ready-context}',M+'Ranks.{rank-same}',M+'Dispatch.{kind-is, kind-between, synthesizes-none, synthesizes-five, synthesizes-between, past-one, past-six, past-twelve, kind-never}'],
  'term-record-requires':TERM,
  'chk-syn-requires':sub(f"synthesizes-none _ _ _ {ER} (@At-match-keys1 .match .keys1)"),'chk-pair-requires':sub(key(1,2)),'chk-fun-requires':sub(key(4,3)),
  'chk-syn-requires-2':sub(f"synthesizes-five _ _ _ {ER} (@At-match-keys4 .match .keys4)"),'chk-let-requires':sub(key(6,5)),'chk-case-requires':sub(key(9,6)),'chk-abort-requires':sub(key(10,7)),
  'chk-as-requires':sub(key(12,9)),
  **{f'returns{"" if i==1 else "-"+str(i)}':f"@After-{n} .{n} .ensures" for i,n in [(1,'chk-syn'),(2,'chk-pair'),(3,'chk-fun'),(4,'chk-syn2'),(5,'chk-let'),(6,'chk-case'),(7,'chk-abort'),(9,'chk-as'),(11,'chk-syn3'),(12,'chk-or')]},
- 'returns-8':f"@After-chk-unit .chk-unit .ensures _ _ {RD}",'returns-10':f"@After-chk-sorry .chk-sorry .ensures _ _ {RD}"}
+ 'returns-8':f"@After-chk-unit .chk-unit .ensures _ _ {RD}",'returns-10':f"@After-chk-sorry .chk-sorry .ensures _ {RD}"}
 # ---- synthesize
 def ssub(fact): return f"(rank-same _ _ 2 1 _ (@Start .pre .0) (omega arith), (@Start .pre .1, {fact}))"
 SR='(@Start .pre .1)'
@@ -123,7 +123,7 @@ def nt(n,i): return "(@At-match-rest .match .rest"+" .0"*(n-i)+" .1)"
 PLACE=f"(ready-tree {RD}, ready-inner {RD} (@Start .args .st) refl)"
 A['check'].update({
  'chk-unit-requires':f"(({RD} .base .table, {RD} .base .made), ({RD} .base .loaded, (@Start .pre .1 .1, ({PLACE}, {key(11,8)}))))",
- 'chk-sorry-requires':f"(@Start .pre .1 .1, ({PLACE}, ((ready-goals {RD}, ready-goal {RD}), {key(13,10)})))",
+ 'chk-sorry-requires':f"(@Start .pre .1 .1, ({PLACE}, ((ready-goals {RD}, ready-goal {RD}), (({RD} .base .work-room, ready-context {RD}), {key(13,10)}))))",
  'chk-syn-requires-3':sub(f"synthesizes-between _ _ _ {ER} (past-one _ {nt(10,1)} {nt(10,2)}) (@Then1 .if1 .taken)"),
  'chk-or-requires':sub(f"kind-between _ _ _ 6 9 {ER} (past-six _ (@Else1 .if1 .left) {nt(10,3)} {nt(10,4)} {nt(10,5)}) (@Then2 .if2 .taken)"),
  'returns-13':f"absurd (kind-never {RD} _ {ER} (past-twelve _ (@Else2 .if2 .left) {nt(10,6)} {nt(10,7)} {nt(10,8)} {nt(10,9)}) {nt(10,10)})"})

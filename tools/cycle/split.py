@@ -44,7 +44,7 @@ bym={pre(m):m for m in members}
 # same lengths: what each call that writes a room says of its length, the last call first
 K={2:' .1 .0',3:' .1 .1 .0',4:' .1 .1 .1 .0',5:' .1 .1 .1 .1 .0'}
 WRITES={c:K for c in ['check','synthesize','chk-abort','chk-as','chk-case','chk-ex','chk-fun','chk-let','chk-or','chk-pair','chk-syn','syn-all','syn-app','syn-as','syn-case','syn-fun','syn-let','syn-pair','syn-proj']}
-WRITES.update({'put-node':{2:' .0'},'shift':{2:' .0'},'put-in':{4:' .0'},'make-constant':{4:' .0'},'make-and':{4:' .0'},'open-function':{4:' .1 .0'},'agree':{4:' .1 .0'},'resolve-type':{4:' .1 .0'},'abstract-over':{4:' .1 .0'},'enter':{5:' .0'},'enter-fresh':{5:' .0'},'open-let':{4:' .1 .0',5:' .1 .1 .0'},'chk-unit':{2:' .1 .0'},'chk-sorry':{2:' .1 .0',3:' .1 .1 .0'},'syn-ident':{2:' .1 .0'},'syn-unit':{2:' .1 .0',4:' .1 .1 .0'}})
+WRITES.update({'put-node':{2:' .0'},'shift':{2:' .0'},'put-in':{4:' .0'},'make-constant':{4:' .0'},'make-and':{4:' .0'},'open-function':{4:' .1 .0'},'agree':{4:' .1 .0'},'resolve-type':{4:' .1 .0'},'abstract-over':{4:' .1 .0'},'enter':{5:' .0'},'enter-fresh':{5:' .0'},'open-let':{4:' .1 .0',5:' .1 .1 .0'},'chk-unit':{2:' .1 .0'},'chk-sorry':{2:' .1 .0',3:' .1 .1 .0',5:' .1 .1 .1 .0'},'syn-ident':{2:' .1 .0'},'syn-unit':{2:' .1 .0',4:' .1 .1 .0'}})
 def lengths(lts,bef):
     out={}
     for mm in re.finditer(r'Need-(same-length\S*) =\s*\(c : (\S+)\) → MutSlice\.SameLen \(Row\.get (\d+)',lts):

@@ -91,7 +91,7 @@ pub fn check(
         10 => chk_abort(file, tree, goals, props, work, k, wanted, st),
         11 => chk_unit(file, tree, props, k, wanted, st),
         12 => chk_as(file, tree, goals, props, work, k, wanted, st),
-        13 => chk_sorry(file, tree, goals, k, wanted, st),
+        13 => chk_sorry(file, tree, goals, work, k, wanted, st),
         14..=255 => Checked::Refused(11, k),
     }
 }

@@ -15,6 +15,7 @@ use Rattle.layout.specs.File.{props}
 use Rattle.rules.specs.State.{St}
 use Rattle.rules.specs.Tree.{records, holes}
 use Rattle.rules.specs.Step.{Out, refused, ok, Answer}
+use Rattle.table.specs.declared.Purpose.{Purpose}
 use Rattle.table.specs.declared.Purpose.the-variants.{Check}
 use Rattle.table.specs.declared.Verdict.{Verdict}
 use Rattle.table.specs.declared.Verdict.the-variants as verdict
@@ -50,14 +51,14 @@ module _ {l : List ℕ} {a : Answer} {st : St} (R R' : Rooms) (h : Holds l R a s
       }
 
 -- AFTER THE RUN
-pub count-fits : (l : List ℕ) (R : Rooms) (r : Checked) (st : State) → r ≡ checked.Fits st → Exact R → RanAs l R r → countOf l st ≤ most-records
-count-fits l R r st e x h = let k = subst (RanAs l R) e h in omega (arith, k .holds .made .room, x .props)
+pub count-fits : (l : List ℕ) (o : Out Answer) (R : Rooms) (r : Checked) (st : State) → r ≡ checked.Fits st → Exact R → RanAs l o R r → countOf l st ≤ most-records
+count-fits l o R r st e x h = let k = subst (RanAs l o R) e h in omega (arith, k .holds .made .room, x .props)
 
-pub rest-fits : (l : List ℕ) (R : Rooms) (r : Checked) (st : State) (c : ℕ) → r ≡ checked.Fits st → c ≡ countOf l st → Exact R → RanAs l R r
+pub rest-fits : (l : List ℕ) (o : Out Answer) (R : Rooms) (r : Checked) (st : State) (c : ℕ) → r ≡ checked.Fits st → c ≡ countOf l st → Exact R → RanAs l o R r
     → ((16 * st .records ≤ tree-bytes) × (tree-bytes ≤ length (R .tree)))
     × (((8 * st .goals ≤ goals-bytes) × (goals-bytes ≤ length (R .goals))) × ((16 * c ≤ props-bytes) × (props-bytes ≤ length (R .props))))
-rest-fits l R r st c e f x h =
-    let k = subst (RanAs l R) e h in
+rest-fits l o R r st c e f x h =
+    let k = subst (RanAs l o R) e h in
     let t = k .holds .tree-room in
     let g = k .holds .goals-room in
     let p = k .holds .made .room in
@@ -68,71 +69,78 @@ rest-fits l R r st c e f x h =
     let m = k .goals in
     ((omega arith, omega arith), ((omega arith, omega arith), (omega arith, omega arith)))
 
-pub finish-refused : (l : List ℕ) (R R' : Rooms) (r : Checked) (n : ℕ) (p : Term) → r ≡ checked.Refused n p → RanAs l R r → Emptied R R' → MarkedAs l R R' (root-run l) (mark.Refused n (p .0))
-finish-refused l R R' r n p e h z = subst⁻¹ (λ (o : Out Answer). MarkedAs l R R' o (mark.Refused n (p .0))) (subst (RanAs l R) e h) (refl, z)
+pub finish-refused : (l : List ℕ) (o : Out Answer) (R R' : Rooms) (r : Checked) (n : ℕ) (p : Term) → r ≡ checked.Refused n p → RanAs l o R r → Emptied R R'
+    → MarkedAs l R R' o (mark.Refused n (p .0))
+finish-refused l o R R' r n p e h z = subst⁻¹ (λ (o : Out Answer). MarkedAs l R R' o (mark.Refused n (p .0))) (subst (RanAs l o R) e h) (refl, z)
+
+-- an acceptance: its counts are the tree's, and what is left of the rooms is kept
+pub kept-rest : (l : List ℕ) (o : Out Answer) (R R' : Rooms) (st : State) (r : Ran l o R st) → Rest (st .records) (st .goals) (countOf l st) R R' → Kept l R R' (r .answer) (stOf st)
+kept-rest l o R R' st r z =
+    record {
+      holds =
+          holds-on R R' (r .holds)
+          (λ i h. same-record (16 * st .records) (R .tree) (R' .tree) (z .tree .kept) i (omega (arith, r .records)))
+          (λ i h. same-goal (8 * st .goals) (R .goals) (R' .goals) (z .goals .kept) i (omega (arith, r .goals)))
+          (λ i h. same-record (16 * countOf l st) (R .props) (R' .props) (z .props .kept) i (omega arith))
+          (omega (arith, z .tree .long)) (omega (arith, z .goals .long)) (omega (arith, z .props .long));
+      tree = subst (λ (k : ℕ). cleared (16 * k) (R' .tree) ≡ cleared tree-bytes (R .tree)) (r .records) (z .tree .rest);
+      goals = subst (λ (k : ℕ). cleared (8 * k) (R' .goals) ≡ cleared goals-bytes (R .goals)) (r .goals) (z .goals .rest);
+      props = z .props .rest;
+      work = z .work;
+    }
 
 abbrev counted : State → Mark
 counted st = mark.Accepted (record { records = st .records; goals = st .goals; serials = st .serials; made = st .made })
 
-accepted : (l : List ℕ) (R R' : Rooms) (st : State) → Ran l R st → Rest (st .records) (st .goals) (countOf l st) R R' → MarkedAs l R R' (root-run l) (counted st)
-accepted l R R' st r z =
+accepted : (l : List ℕ) (o : Out Answer) (R R' : Rooms) (st : State) → Ran l o R st → Rest (st .records) (st .goals) (countOf l st) R R' → MarkedAs l R R' o (counted st)
+accepted l o R R' st r z =
     subst⁻¹ (λ (o : Out Answer). MarkedAs l R R' o (counted st)) (r .accepts) (
       ap₂ (λ (x y : ℕ). mark.Accepted (record { records = x; goals = y; serials = st .serials; made = st .made })) (r .records) (r .goals),
-      record {
-        holds =
-            holds-on R R' (r .holds)
-            (λ i h. same-record (16 * st .records) (R .tree) (R' .tree) (z .tree .kept) i (omega (arith, r .records)))
-            (λ i h. same-goal (8 * st .goals) (R .goals) (R' .goals) (z .goals .kept) i (omega (arith, r .goals)))
-            (λ i h. same-record (16 * countOf l st) (R .props) (R' .props) (z .props .kept) i (omega arith))
-            (omega (arith, z .tree .long)) (omega (arith, z .goals .long)) (omega (arith, z .props .long));
-        tree = subst (λ (k : ℕ). cleared (16 * k) (R' .tree) ≡ cleared tree-bytes (R .tree)) (r .records) (z .tree .rest);
-        goals = subst (λ (k : ℕ). cleared (8 * k) (R' .goals) ≡ cleared goals-bytes (R .goals)) (r .goals) (z .goals .rest);
-        props = z .props .rest;
-        work = z .work;
-      },
+      kept-rest l o R R' st r z,
     )
 
-pub finish-accepted : (l : List ℕ) (R R' : Rooms) (r : Checked) (st : State) (c : ℕ) → r ≡ checked.Fits st → c ≡ countOf l st → RanAs l R r → Rest (st .records) (st .goals) c R R'
-    → MarkedAs l R R' (root-run l) (counted st)
-finish-accepted l R R' r st c e f h z = accepted l R R' st (subst (RanAs l R) e h) (subst (λ (c : ℕ). Rest (st .records) (st .goals) c R R') f z)
+pub finish-accepted : (l : List ℕ) (o : Out Answer) (R R' : Rooms) (r : Checked) (st : State) (c : ℕ) → r ≡ checked.Fits st → c ≡ countOf l st → RanAs l o R r
+    → Rest (st .records) (st .goals) c R R' → MarkedAs l R R' o (counted st)
+finish-accepted l o R R' r st c e f h z = accepted l o R R' st (subst (RanAs l o R) e h) (subst (λ (c : ℕ). Rest (st .records) (st .goals) c R R') f z)
 
 -- ROOMS OF JUST THE LISTED SIZES: what they held before the run does not count
-emptied-over : {R R₁ R' : Rooms} → Exact R → Exact R₁ → Emptied R₁ R' → Emptied R R'
-emptied-over {R} {R₁} e f z =
-    record {
-      tree = z .tree ∙ cleared-exact tree-bytes (R .tree) (R₁ .tree) (e .tree) (f .tree);
-      goals = z .goals ∙ cleared-exact goals-bytes (R .goals) (R₁ .goals) (e .goals) (f .goals);
-      props = z .props ∙ cleared-exact props-bytes (R .props) (R₁ .props) (e .props) (f .props);
-      work = z .work ∙ cleared-exact work-bytes (R .work) (R₁ .work) (e .work) (f .work);
-    }
+module _ {R R₁ : Rooms} (e : Exact R) (f : Exact R₁) where
+  pub emptied-over : {R' : Rooms} → Emptied R₁ R' → Emptied R R'
+  emptied-over z =
+      record {
+        tree = z .tree ∙ cleared-exact tree-bytes (R .tree) (R₁ .tree) (e .tree) (f .tree);
+        goals = z .goals ∙ cleared-exact goals-bytes (R .goals) (R₁ .goals) (e .goals) (f .goals);
+        props = z .props ∙ cleared-exact props-bytes (R .props) (R₁ .props) (e .props) (f .props);
+        work = z .work ∙ cleared-exact work-bytes (R .work) (R₁ .work) (e .work) (f .work);
+      }
 
-marked-over : (l : List ℕ) (R R₁ R' : Rooms) (m : Mark) → Exact R → Exact R₁ → (o : Out Answer) → MarkedAs l R₁ R' o m → MarkedAs l R R' o m
-marked-over l R R₁ R' m e f (refused n p) h = (h .0, emptied-over e f (h .1))
-marked-over l R R₁ R' m e f (ok a st) h =
-    let k = h .1 in (
-      h .0,
+  pub kept-over : {l : List ℕ} {R' : Rooms} {a : Answer} {st : St} → Kept l R₁ R' a st → Kept l R R' a st
+  kept-over k =
       record {
         holds = k .holds;
         tree = k .tree ∙ cleared-exact tree-bytes (R .tree) (R₁ .tree) (e .tree) (f .tree);
         goals = k .goals ∙ cleared-exact goals-bytes (R .goals) (R₁ .goals) (e .goals) (f .goals);
         props = k .props ∙ cleared-exact props-bytes (R .props) (R₁ .props) (e .props) (f .props);
         work = k .work ∙ cleared-exact work-bytes (R .work) (R₁ .work) (e .work) (f .work);
-      },
-    )
+      }
+
+marked-over : (l : List ℕ) (R R₁ R' : Rooms) (m : Mark) → Exact R → Exact R₁ → (o : Out Answer) → MarkedAs l R₁ R' o m → MarkedAs l R R' o m
+marked-over l R R₁ R' m e f (refused n p) h = (h .0, emptied-over e f (h .1))
+marked-over l R R₁ R' m e f (ok a st) h = (h .0, kept-over e f (h .1))
 
 -- what the tests of a table answer, in a room that is long enough
-verdict-is : (l work left : List ℕ) (v : Verdict) → length work ≡ work-bytes → Tested Check l work left v → v ≡ tests Check l
+pub verdict-is : (p : Purpose) (l work left : List ℕ) (v : Verdict) → length work ≡ work-bytes → Tested p l work left v → v ≡ tests p l
 unfolding unless
-verdict-is l work left v h t = t .verdict ∙ rw (le-leb test-room (length work) (omega arith))
+verdict-is p l work left v h t = t .verdict ∙ rw (le-leb test-room (length work) (omega arith))
 
 pub table-refused : (l : List ℕ) (R R₁ R' : Rooms) (v : Verdict) (n p : ℕ) → v ≡ verdict.Refused n p → Exact R → Exact R₁ → Tested Check l (R .work) (R₁ .work) v → Emptied R₁ R'
     → MarkedAs l R R' (table-run l) (mark.Refused n p)
 unfolding unless-refused
 table-refused l R R₁ R' v n p q e f t z =
-    subst (λ (v : Verdict). MarkedAs l R R' (unless-refused v (root-run l)) (mark.Refused n p)) (sym q ∙ verdict-is l (R .work) (R₁ .work) v (e .work) t) (refl, emptied-over e f z)
+    subst (λ (v : Verdict). MarkedAs l R R' (unless-refused v (root-run l)) (mark.Refused n p)) (sym q ∙ verdict-is Check l (R .work) (R₁ .work) v (e .work) t) (refl, emptied-over e f z)
 
 pub table-good : (l work left : List ℕ) (v : Verdict) → v ≡ verdict.Passes → length work ≡ work-bytes → Tested Check l work left v → Good Check l
-table-good l work left v q e t = sym (verdict-is l work left v e t) ∙ q
+table-good l work left v q e t = sym (verdict-is Check l work left v e t) ∙ q
 
 pub table-marked : (l : List ℕ) (R R₁ R' : Rooms) (m : Mark) → Exact R → Exact R₁ → Good Check l → MarkedAs l R₁ R' (root-run l) m → MarkedAs l R R' (table-run l) m
 unfolding unless-refused
@@ -193,8 +201,8 @@ module _ (tree goals ps work : List ℕ) (b : Bool) (is : b ≡ long-enough (roo
   pub work-long : b ≡ true → work-bytes ≤ length work
   work-long h = lengths (rooms tree goals ps work) (long-true h) .3
 
-module _ (l : List ℕ) (m : Mark) (R S : Rooms) (long : long-enough R ≡ true) where
-  emptied-whole : Emptied (firsts R) S → Emptied R (followed S R)
+module _ (l : List ℕ) (R S : Rooms) (long : long-enough R ≡ true) where
+  pub emptied-whole : Emptied (firsts R) S → Emptied R (followed S R)
   emptied-whole z =
       record {
         tree = ap (λ (t : List ℕ). t ++ drop tree-bytes (R .tree)) (z .tree) ∙ cleared-parts tree-bytes (R .tree) (lengths R long .0);
@@ -203,7 +211,7 @@ module _ (l : List ℕ) (m : Mark) (R S : Rooms) (long : long-enough R ≡ true)
         work = ap (λ (t : List ℕ). t ++ drop work-bytes (R .work)) (z .work) ∙ cleared-parts work-bytes (R .work) (lengths R long .3);
       }
 
-  kept-whole : {a : Answer} {st : St} → Kept l (firsts R) S a st → Kept l R (followed S R) a st
+  pub kept-whole : {a : Answer} {st : St} → Kept l (firsts R) S a st → Kept l R (followed S R) a st
   kept-whole {a} {st} k =
       let h = k .holds in
       let t = length-append (S .tree) (drop tree-bytes (R .tree)) in
@@ -222,9 +230,10 @@ module _ (l : List ℕ) (m : Mark) (R S : Rooms) (long : long-enough R ≡ true)
         work = ap (λ (t : List ℕ). t ++ drop work-bytes (R .work)) (k .work) ∙ cleared-parts work-bytes (R .work) (lengths R long .3);
       }
 
+module _ (l : List ℕ) (m : Mark) (R S : Rooms) (long : long-enough R ≡ true) where
   marked-whole : (o : Out Answer) → MarkedAs l (firsts R) S o m → MarkedAs l R (followed S R) o m
-  marked-whole (refused n p) h = (h .0, emptied-whole (h .1))
-  marked-whole (ok a st) h = (h .0, kept-whole (h .1))
+  marked-whole (refused n p) h = (h .0, emptied-whole l R S long (h .1))
+  marked-whole (ok a st) h = (h .0, kept-whole l R S long (h .1))
 
   pub marks-long : MarkedAs l (firsts R) S (table-run l) m → Marks l R (followed S R) m
   unfolding outcome

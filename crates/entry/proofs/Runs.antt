@@ -71,7 +71,7 @@ module _ (l : List ℕ) (good : Good Check l) where
         ap₂ (λ (A : Ty) (Γ : Ctx). run (termAt l 0) (check A) Γ start) (ap prop (loaded .means (expected l) (expected-in (good-passed good .linked))))
         (ctx-none (reads l (R .props)) (R .work))
 
-    fits : (R' : Rooms) (st : State) → Accepts l R R' nothing st (root-run l) → Ran l R' st
+    fits : (R' : Rooms) (st : State) → Accepts l R R' nothing st (root-run l) → Ran l (root-run l) R' st
     fits R' st h =
         let p = good-passed good in
         let a = h .answer in
@@ -93,9 +93,9 @@ module _ (l : List ℕ) (good : Good Check l) where
           goals = omega (arith, left .goals);
         }
 
-    as-ran : (R' : Rooms) (r : Checked) → CheckMeets l R R' 0 (sort.Proposition (record { 0 = expected l })) nothing r → RanAs l R' r
+    as-ran : (R' : Rooms) (r : Checked) → CheckMeets l R R' 0 (sort.Proposition (record { 0 = expected l })) nothing r → RanAs l (root-run l) R' r
     as-ran R' (checked.Fits st) h = fits R' st (subst (λ (o : Out Answer). Accepts l R R' nothing st o) root-is h)
     as-ran R' (checked.Refused n p) h = sym root-is ∙ h
 
-    pub ran : (R' : Rooms) (r : Checked) (n : ℕ) → n ≡ expected l → CheckMeets l R R' 0 (sort.Proposition (record { 0 = n })) nothing r → RanAs l R' r
+    pub ran : (R' : Rooms) (r : Checked) (n : ℕ) → n ≡ expected l → CheckMeets l R R' 0 (sort.Proposition (record { 0 = n })) nothing r → RanAs l (root-run l) R' r
     ran R' r n e h = as-ran R' r (subst (λ (n : ℕ). CheckMeets l R R' 0 (sort.Proposition (record { 0 = n })) nothing r) e h)

@@ -1,15 +1,15 @@
--- The rooms after the run of a table that passes its tests, before they are cleaned. Assumes nothing.
+-- The rooms after a run, before they are cleaned. Assumes nothing.
 use mathlib.Core.Path.{_≡_}
 use mathlib.Core.List.{List}
 use Prim.Native.Nat.{ℕ}
 use lib.ListN.{length}
 use Rattle.rules.specs.Tree.{records, holes}
-use Rattle.rules.specs.Step.{refused, ok, Answer}
+use Rattle.rules.specs.Step.{Out, refused, ok, Answer}
 use Rattle.marking.specs.declared.state.State.{State}
 use Rattle.marking.specs.declared.state.Checked.{Checked}
 use Rattle.marking.specs.declared.state.Checked.the-variants as checked
 use Rattle.marking.specs.Rooms.{Rooms, stOf}
-use Rattle.entry.specs.Mark.{tree-bytes, goals-bytes, props-bytes, work-bytes, root-run, Holds}
+use Rattle.entry.specs.Mark.{tree-bytes, goals-bytes, props-bytes, work-bytes, Holds}
 
 -- rooms of just the listed sizes
 pub record Exact (R : Rooms) : Type 0 where
@@ -18,14 +18,14 @@ pub record Exact (R : Rooms) : Type 0 where
   pub props : length (R .props) ≡ props-bytes
   pub work : length (R .work) ≡ work-bytes
 
--- the rules accept, and R holds their tree
-pub record Ran (l : List ℕ) (R : Rooms) (st : State) : Type 0 where
+-- a run of the rules that came to o: it accepts, and R holds its tree
+pub record Ran (l : List ℕ) (o : Out Answer) (R : Rooms) (st : State) : Type 0 where
   pub answer : Answer
-  pub accepts : root-run l ≡ ok answer (stOf st)
+  pub accepts : o ≡ ok answer (stOf st)
   pub holds : Holds l R answer (stOf st)
   pub records : st .records ≡ records (answer .tree)
   pub goals : st .goals ≡ holes (answer .tree)
 
-abbrev pub RanAs : List ℕ → Rooms → Checked → Type 0
-RanAs l R (checked.Fits st) = Ran l R st
-RanAs l R (checked.Refused n p) = root-run l ≡ refused n (p .0)
+abbrev pub RanAs : List ℕ → Out Answer → Rooms → Checked → Type 0
+RanAs l o R (checked.Fits st) = Ran l o R st
+RanAs l o R (checked.Refused n p) = o ≡ refused n (p .0)

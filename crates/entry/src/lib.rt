@@ -54,7 +54,7 @@ fn run(
 ) -> Checked
     requires { ⌜ Good Check (now file) ⌝ }
     requires { ⌜ Exact (rooms (now tree) (now goals) (now propositions) (now work)) ⌝ }
-    ensures { λ r. ⌜ RanAs (now (file .entry)) (rooms (now (tree .exit)) (now (goals .exit)) (now (propositions .exit)) (now (work .exit))) r ⌝ }
+    ensures { λ r. ⌜ RanAs (now (file .entry)) («root-run» (now (file .entry))) (rooms (now (tree .exit)) (now (goals .exit)) (now (propositions .exit)) (now (work .exit))) r ⌝ }
 {
     load(file, work, propositions);
     chk::check(
@@ -86,7 +86,7 @@ fn finish(
 ) -> Mark
     requires { ⌜ 16 ≤ length (now file) ⌝ }
     requires { ⌜ Exact (rooms (now tree) (now goals) (now propositions) (now work)) ⌝ }
-    requires { ⌜ RanAs (now file) (rooms (now tree) (now goals) (now propositions) (now work)) answer ⌝ }
+    requires { ⌜ RanAs (now file) («root-run» (now file)) (rooms (now tree) (now goals) (now propositions) (now work)) answer ⌝ }
     ensures { λ m. ⌜ MarkedAs (now (file .entry)) (rooms (now (tree .entry)) (now (goals .entry)) (now (propositions .entry)) (now (work .entry))) (rooms (now (tree .exit)) (now (goals .exit)) (now (propositions .exit)) (now (work .exit))) («root-run» (now (file .entry))) m ⌝ }
 {
     match answer {
@@ -108,7 +108,7 @@ fn finish(
 }
 
 // The mark of any bytes, in rooms of just the listed sizes.
-fn check_table(
+pub fn check_table(
     file: &[u8],
     tree: &mut [u8],
     goals: &mut [u8],

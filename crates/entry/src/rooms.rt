@@ -38,7 +38,7 @@ pub fn clear_rooms(tree: &mut [u8], goals: &mut [u8], propositions: &mut [u8], w
 }
 
 // From `used` up to its listed size a room becomes zeros.
-fn trim(room: &mut [u8], used: usize, size: usize)
+pub fn trim(room: &mut [u8], used: usize, size: usize)
     requires { ⌜ (used ≤ size) × (size ≤ length (now room)) ⌝ }
     ensures { λ _. ⌜ Trimmed used size (now (room .entry)) (now (room .exit)) ⌝ }
 {

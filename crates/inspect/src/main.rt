@@ -1,7 +1,8 @@
 // `inspect FILE`: how many propositions and terms a table says it has, and the verdict of its tests as a table to check.
 // `inspect -f FILE` tests it as a filling.
 use libc::STDERR_FILENO;
-use show::LONGEST;
+use show::input::LONGEST;
+use show::input::read_argument;
 use table::Purpose;
 use table::Verdict;
 
@@ -15,27 +16,17 @@ fn counts(file: &[u8]) {
     }
 }
 
-fn inspect(path: &[u8], purpose: Purpose) {
-    let fd = os::open_read(path);
-    if fd < 0 {
-        os::fail(path);
+// The file that argument i names.
+fn inspect(i: usize, purpose: Purpose) {
+    let mut room = [0u8; LONGEST];
+    let got = read_argument(i, &mut room);
+    if got < 0 {
         return;
     }
-    let mut room = [0u8; LONGEST];
-    let got = io::read_full(fd, &mut room);
-    if got == 0 {
-        if os::errno() != 0 {
-            os::fail(path);
-            libc::close(fd);
-            return;
-        }
-    }
-    libc::close(fd);
     let mut work = [0u8; table::ROOM];
-    if got <= LONGEST {
-        counts(&room[..got]);
-        show::answer(table::test_table(&room[..got], &mut work, purpose));
-    }
+    let n = io::count(got, &room);
+    counts(&room[..n]);
+    show::answer(table::test_table(&room[..n], &mut work, purpose));
 }
 
 fn usage() {
@@ -45,25 +36,22 @@ fn usage() {
     );
 }
 
+// Whether the first argument is -f.
+fn is_filling() -> bool {
+    let mut flag = io::buffer();
+    let length = os::arg(1, &mut flag);
+    (length == 2) & ((flag[0] == b'-') & (flag[1] == b'f'))
+}
+
 fn main() {
-    let mut path = io::buffer();
     if os::arg_count() == 2 {
-        let length = os::arg(1, &mut path);
-        inspect(&path[..length], Purpose::Check);
+        inspect(1, Purpose::Check);
         return;
     }
-    if os::arg_count() != 3 {
-        usage();
-        return;
-    }
-    let flag = os::arg(1, &mut path);
-    if flag == 2 {
-        if path[0] == b'-' {
-            if path[1] == b'f' {
-                let length = os::arg(2, &mut path);
-                inspect(&path[..length], Purpose::Filling);
-                return;
-            }
+    if os::arg_count() == 3 {
+        if is_filling() {
+            inspect(2, Purpose::Filling);
+            return;
         }
     }
     usage();

@@ -8,22 +8,21 @@ use native.Mathlib.Nat.{eq-or-lt-of-le}
 use native.Mathlib.Omega.{arith}
 use lib.ListN.{length, getD, take}
 use lib.Dec.{eqb, ltb, leb}
-use borrow.Author.Tests.{eqb-true, lt-ltb, le-ltb, leb-true, not-false}
+use borrow.Author.Tests.{eqb-true, lt-ltb, le-ltb, leb-true}
 use Rattle.number.specs.declared.record.Record.{Record}
 use Rattle.number.specs.Records.{recordAt, Put}
 use Rattle.rules.specs.Prop.{Param, free, ser, bound, Origin, table, Prop, const, link, quant, atom}
 use Rattle.layout.specs.File.{props, propRecord, PropKind, constant, linked, quantified, atomic, strange, prop-kind, prop-kinds}
 use Rattle.layout.specs.Form.{prop-shape, in-prop-shape, prop-form}
 use Rattle.layout.proofs.Strange.{strange-prop}
-use Rattle.table.specs.declared.Purpose.{Purpose}
 use Rattle.table.specs.declared.above.Settled.{Settled}
 use Rattle.table.specs.declared.above.Settled.the-variants.{Free, Bound}
-use Rattle.table.specs.Links.{all-links, prop-children, prop-links, prop-links-ok, hits, prop-named, badly-linked-prop}
+use Rattle.table.specs.Links.{all-links, prop-children, prop-links, hits}
 use Rattle.table.specs.Reading.{binders, settled, prop-of, propAt}
 use Rattle.table.specs.Nearest.{param-of}
-use Rattle.table.specs.Passing.{Formed, Linked, WellLinked}
+use Rattle.table.specs.Passing.{Formed, WellLinked}
 use Rattle.table.proofs.Sums.{hit-here, hit-later}
-use Rattle.table.proofs.Links.{prop-induction}
+use Rattle.table.proofs.Links.{directed, prop-induction}
 use Rattle.table.proofs.Reading.{prop-step}
 use Rattle.prop.specs.Room.{param, kind-0, kind-1, kind-2, kind-3, params, origin, node, roomAt, form-as, room-form, Node, Arena}
 use Rattle.making.specs.Load.{kind-in, number-in, loaded-param, ParameterIs, place, loaded-atom, loaded-as, loaded-from, loadedRecord, Loading, Loaded}
@@ -266,10 +265,6 @@ four-params : (l : List ℕ) (n : ℕ) → length (propRecord l n .parameters) �
 unfolding recordAt
 four-params l n = refl
 
-links-ok : {p : Purpose} {l : List ℕ} → Linked p l → (n : ℕ) → n < props l → prop-links-ok l n ≡ true
-unfolding badly-linked-prop
-links-ok {p} {l} h n k = split (prop-links-ok l n) (eqb (prop-named p l n) 1) (not-false (prop-links-ok l n && eqb (prop-named p l n) 1) (h .prop n k)) .0
-
 module _ {l old new : List ℕ} (f : Formed l) (h : WellLinked l) (long : 16 * props l ≤ length old) (so : Loading l (props l) old new) where
   loaded-node : (n : ℕ) → n < props l → Node new n
   loaded-node n k =
@@ -277,7 +272,7 @@ module _ {l old new : List ℕ} (f : Formed l) (h : WellLinked l) (long : 16 * p
         form = subst⁻¹ (λ (r : Record). room-form r ≡ true) (so .records n k) (form-kept l n (propRecord l n) (f .prop n k) (prop-kind (propRecord l n .kind)) refl);
         links =
             subst⁻¹ (λ (r : Record). all-links (λ m. ltb m n) (prop-links r) ≡ true) (so .records n k)
-            (subst⁻¹ (λ (ms : List ℕ). all-links (λ m. ltb m n) ms ≡ true) (links-same l n (propRecord l n)) (links-ok (h .linked) n k));
+            (subst⁻¹ (λ (ms : List ℕ). all-links (λ m. ltb m n) ms ≡ true) (links-same l n (propRecord l n)) (directed (h .linked) .prop n k));
       }
 
   loaded-arena : Arena new (props l)
@@ -285,14 +280,14 @@ module _ {l old new : List ℕ} (f : Formed l) (h : WellLinked l) (long : 16 * p
 
   loaded-props : (n : ℕ) → n < props l → roomAt (props l) new n ≡ propAt l n
   loaded-props =
-      prop-induction (h .linked) (λ n. roomAt (props l) new n ≡ propAt l n)
+      prop-induction (directed (h .linked)) (λ n. roomAt (props l) new n ≡ propAt l n)
       (λ n k sub.
       let r = propRecord l n in
       room-step loaded-arena (props l) n k
       ∙ ap (λ (r : Record). node (props l) n (roomAt (props l) new) (prop-kind (r .kind)) r) (so .records n k)
       ∙ ap (λ (j : ℕ). node (props l) n (roomAt (props l) new) (prop-kind j) (loadedRecord l n)) (kind-kept l n r (prop-kind (r .kind)))
       ∙ reads-as l n r (props l) (roomAt (props l) new) (propAt l) (table-here (props l) n k) (f .prop n k) (four-params l n) (prop-kind (r .kind)) refl sub
-      ∙ sym (prop-step (h .linked) n k))
+      ∙ sym (prop-step (directed (h .linked)) n k))
 
   loaded-all : Loaded l old new
   loaded-all = record { all = so; arena = loaded-arena; means = loaded-props }

@@ -50,7 +50,7 @@ module _ {l : List ℕ} (table : Table l) {k : ℕ} (h : k < terms l) (r : TermR
       at : termRecord l k .tag ≡ 1 → termRecord l k .typ < props l
       at e =
           let m = termRecord l k .typ in
-          annotation-in (table .linked .linked) k m h (subst⁻¹ (λ (t : ℕ). 0 < hits m (annotation-links t m)) e (hit-here m []))
+          annotation-in (table .directed) k m h (subst⁻¹ (λ (t : ℕ). 0 < hits m (annotation-links t m)) e (hit-here m []))
 
   module _ {ps : List ℕ} {c : ℕ} (loaded : Loaded l ps c) where
     -- what it says to the rules

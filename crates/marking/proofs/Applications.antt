@@ -22,8 +22,8 @@ use Rattle.rules.specs.Context.{Ctx}
 use Rattle.rules.specs.State.{St, limit, next, spend, room}
 use Rattle.rules.specs.Term.{Term, Double, double, nodes}
 use Rattle.rules.specs.Tree.{Trees, end, _⊕_, records, holes, width}
-use Rattle.rules.specs.Step.{Want, synth, check, Out, refused, ok, then, Answer, Steps, Arity, done, more, Prog, conclude, refuse, serial, make, name-of, ask, Kids, with-kid, named, obey, on-link}
-use Rattle.rules.specs.Rules.{one, by, run, app-synth, app-step, double-step}
+use Rattle.rules.specs.Step.{Want, synth, check, Out, refused, ok, then, Answer, Steps, Arity, done, more, Prog, conclude, refuse, serial, make, name-of, ask, Kids, with-kid, named, obey, on-link, objected}
+use Rattle.rules.specs.Rules.{one, by, run, app-synth, app-step, double-step, applying}
 use Rattle.rules.proofs.Spent.{width-beside, Spent, run-spends}
 use Rattle.table.specs.Reading.{termAt}
 use Rattle.prop.specs.declared.head.Parts.{Parts}
@@ -44,9 +44,9 @@ use Rattle.marking.specs.declared.state.Synthesized.{Synthesized}
 use Rattle.marking.specs.declared.state.Synthesized.the-variants as synthesized
 use Rattle.marking.specs.Heads.{Split, SplitAs, Over, OverAs}
 use Rattle.marking.specs.Rooms.{Rooms, rooms, reads, ctxOf, stOf, countOf, inner, Stands, Base}
-use Rattle.marking.specs.Steps.{objected, ObjectAs}
+use Rattle.marking.specs.Steps.{ObjectAs}
 use Rattle.marking.specs.Trees.{nodeRec}
-use Rattle.marking.specs.Contract.{Ready, Accepts, Answers, CheckMeets, SynthMeets, applying, Applied, ArgumentMeets, runOf}
+use Rattle.marking.specs.Contract.{Ready, Accepts, Answers, CheckMeets, SynthMeets, Applied, ArgumentMeets, runOf}
 use Rattle.marking.proofs.Programs.{rest, rest-answers, rest-conclude, ask-refused}
 use Rattle.marking.proofs.Frames.{stands-kept, left-trans}
 use Rattle.marking.proofs.Doing.{Doing, kidAt, doing-start, doing-base, doing-ctx, doing-same, doing-stop, doing-ready-flat, doing-checked-stop, doing-synthesized-stop, doing-put, doing-has, flat-checked, flat-synthesized}

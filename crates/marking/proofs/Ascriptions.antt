@@ -68,7 +68,7 @@ module _ {l : List ℕ} {R : Rooms} {k : ℕ} {st : State} (rd : Ready l R k st)
     pub as-resolve : Counted l × (Loaded l (R .props) (countOf l st) × (TypeIn (countOf l st) t × ((st .made ≤ limit) × (8 * (st .context) ≤ length (R .work)))))
     as-resolve =
         let among = annotation-among (rd .base .table) (rd .here) r er ann ea (rd .base .loaded) in
-        (rd .base .table .counted, (rd .base .loaded, (subst (AnnotationIn (countOf l st)) et among, (rd .base .made, omega (arith, rd .context, rd .base .work-room)))))
+        (rd .base .table .counted, (rd .base .loaded, (subst (AnnotationIn (countOf l st)) et among, (rd .base .made, omega (arith, rd .context, rd .base .table .counted .few, rd .base .work-room)))))
 
     shape : termAt l k ≡ single k (Single.ascribe T) (termAt l c₁)
     unfolding ascribed

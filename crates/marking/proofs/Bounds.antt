@@ -6,6 +6,7 @@ use native.Mathlib.Omega.{arith}
 use lib.ListN.{length}
 use Rattle.table.specs.Reading.{termAt}
 use Rattle.making.specs.Copy.{most-records}
+use Rattle.context.specs.Context.{most-entries}
 use Rattle.marking.specs.declared.state.State.{State}
 use Rattle.marking.specs.Rooms.{Rooms, countOf, Base}
 use Rattle.marking.specs.Contract.{Ready}
@@ -24,7 +25,10 @@ ready-inner {l} {k = k} rd s e = omega (arith, rd .records, nodes-some (termAt l
 
 -- the entries are in the room
 pub ready-work : {l : List ℕ} {R : Rooms} {k : ℕ} {st : State} → Ready l R k st → 8 * (st .context) ≤ length (R .work)
-ready-work rd = omega (arith, rd .context, rd .base .work-room)
+ready-work rd = omega (arith, rd .context, rd .base .table .counted .few, rd .base .work-room)
+
+pub ready-context : {l : List ℕ} {R : Rooms} {k : ℕ} {st : State} → Ready l R k st → st .context ≤ most-entries
+ready-context rd = omega (arith, rd .context, rd .base .table .counted .few)
 
 -- a record, and a goal, has its place
 pub ready-tree : {l : List ℕ} {R : Rooms} {k : ℕ} {st : State} → Ready l R k st → 16 * (st .records) + 16 ≤ length (R .tree)

@@ -31,6 +31,7 @@ use Rattle.marking.specs.declared.state.Synthesized.the-variants as synt
 use Rattle.marking.specs.Rooms.{Rooms, rooms, reads, ctxOf, stOf, countOf, inner, Stands, Base}
 use Rattle.marking.specs.Shift.{Shifted}
 use Rattle.marking.specs.Trees.{nodeRec, TreesAre}
+use Rattle.marking.specs.Picture.{PicturesAre}
 use Rattle.marking.specs.Contract.{Ready, Left, Accepts, Answers, SynthMeets, runOf, synthesizes}
 use Rattle.marking.proofs.Programs.{compared-with, expecting-rest}
 use Rattle.marking.proofs.Frames.{stands-kept, trees-on}
@@ -204,7 +205,7 @@ module _ {l : List ℕ} {R : Rooms} {k : ℕ} {st : State} (rd : Ready l R k st)
               moved i lo hi = put .others (i + 1) (omega arith) ∙ sh .moved i lo (omega (arith, left .records))
 
               over : Left l R R₂ st (inner s) (node top (found .tree) end)
-              unfolding TreesAre records holes
+              unfolding TreesAre PicturesAre records holes
               over =
                   let f = left .grown in
                   record {
@@ -216,6 +217,7 @@ module _ {l : List ℕ} {R : Rooms} {k : ℕ} {st : State} (rd : Ready l R k st)
                       trees-on l R₁ R₂ (f .arena) (λ i h. refl) (omega arith) 1 (st .records) (st .records + 1) (st .goals) (found .tree) refl moved (λ i lo hi. refl) (left .trees),
                       tt,
                     );
+                    pictures = (left .pictures, tt);
                     grown =
                         record {
                           arena = f .arena;
@@ -224,6 +226,8 @@ module _ {l : List ℕ} {R : Rooms} {k : ℕ} {st : State} (rd : Ready l R k st)
                           tree = λ i h. put .others i (omega arith) ∙ sh .below i h ∙ f .tree i h;
                           goals = f .goals;
                           work = f .work;
+                          asks = f .asks;
+                          picture = f .picture;
                           props-long = f .props-long;
                           tree-long = put .size ∙ sh .size ∙ f .tree-long;
                           goals-long = f .goals-long;

@@ -28,6 +28,7 @@ use Rattle.marking.specs.declared.state.Synthesized.{Synthesized}
 use Rattle.marking.specs.declared.state.Synthesized.the-variants as synthesized
 use Rattle.marking.specs.Rooms.{Rooms, rooms, reads, ctxOf, stOf, countOf, inner, leaving, Stands, Entries, Base}
 use Rattle.marking.specs.Trees.{nodeRec, first-serial, second-serial, NodeIs, TreesAre}
+use Rattle.marking.specs.Picture.{PicturesAre}
 use Rattle.marking.specs.Contract.{Ready, Grown, Left, Accepts, Answers, CheckedAs, SynthesizedAs, runOf, CheckMeets, SynthMeets}
 use Rattle.marking.proofs.Programs.{rest, rest-refused, rest-ask, ask-refused, rest-conclude}
 use Rattle.marking.proofs.Frames.{entries-kept, ctx-kept, loaded-kept, stands-kept, left-none, left-trans, left-leave, grown-trans, trees-kept, trees-beside}
@@ -261,7 +262,7 @@ module _ {l : List ℕ} {R₀ : Rooms} {k : ℕ} {w : Want} {st₀ : State} {R :
 
   module _ {T : Sort} {nd : Record} {tr : List ℕ} (says : Stands l (R .props) (countOf l st) T A) (e : nd ≡ nodeRec rule k T (first-serial is) (second-serial is) wide) (put : Put (R .tree) (st₀ .records) nd tr) where
     topped : Left l R₀ (rooms tr (R .goals) (R .props) (R .work)) st₀ st (node (record { rule = rule; term = k; concludes = A; serials = is }) (d .trees) end)
-    unfolding TreesAre records holes
+    unfolding TreesAre PicturesAre records holes
     topped =
         let f = d .left .grown in
         record {
@@ -277,6 +278,7 @@ module _ {l : List ℕ} {R₀ : Rooms} {k : ℕ} {w : Want} {st₀ : State} {R :
             trees-kept l R (rooms tr (R .goals) (R .props) (R .work)) (f .arena) (λ i h. refl) (omega arith) (st₀ .records + 1) (st₀ .goals) (d .trees) (λ i lo hi. put .others i (omega arith)) (λ i lo hi. refl) (d .left .trees),
             tt,
           );
+          pictures = (d .left .pictures, tt);
           grown =
               record {
                 arena = f .arena;
@@ -285,6 +287,8 @@ module _ {l : List ℕ} {R₀ : Rooms} {k : ℕ} {w : Want} {st₀ : State} {R :
                 tree = λ i h. put .others i (omega arith) ∙ f .tree i (omega arith);
                 goals = f .goals;
                 work = f .work;
+                asks = f .asks;
+                picture = f .picture;
                 props-long = f .props-long;
                 tree-long = put .size ∙ f .tree-long;
                 goals-long = f .goals-long;

@@ -20,7 +20,9 @@ use Rattle.context.proofs.Laws.{ctx-same, ctx-read-same}
 use Rattle.marking.specs.declared.state.State.{State}
 use Rattle.marking.specs.Rooms.{Rooms, rooms, reads, ctxOf, countOf, leaving, Stands, Entries, Loaded, Base}
 use Rattle.marking.specs.Trees.{goalAt, SameGoals, NodeIs, GapIs, TreesAre}
+use Rattle.marking.specs.Picture.{PicturesAre}
 use Rattle.marking.specs.Contract.{Grown, Left}
+use Rattle.marking.proofs.Pictures.{pictures-kept, pictures-beside}
 
 -- GROWN
 pub entries-kept : {R R' : Rooms} {c d r g n : ℕ} (f : Grown R R' c d r g n) (m : ℕ) → m ≤ n → Entries (R .work) m c → Entries (R' .work) m d
@@ -56,6 +58,8 @@ grown-none ok =
       tree = λ m h. refl;
       goals = λ m h. refl;
       work = λ m h. refl;
+      asks = refl;
+      picture = λ k i h. refl;
       props-long = refl;
       tree-long = refl;
       goals-long = refl;
@@ -72,6 +76,8 @@ grown-trans f k rs gh nm =
       tree = λ i l. k .tree i (omega arith) ∙ f .tree i l;
       goals = λ i l. k .goals i (omega arith) ∙ f .goals i l;
       work = λ i l. k .work i (omega arith) ∙ f .work i l;
+      asks = k .asks ∙ f .asks;
+      picture = λ a i l. k .picture (omega (arith, f .asks)) i l ∙ f .picture a i l;
       props-long = k .props-long ∙ f .props-long;
       tree-long = k .tree-long ∙ f .tree-long;
       goals-long = k .goals-long ∙ f .goals-long;
@@ -128,8 +134,8 @@ trees-beside l R c n m (node nd ps ts) us h k = (
 
 -- LEFT
 pub left-none : {l : List ℕ} {R : Rooms} {st : State} → Arena (R .props) (countOf l st) → Left l R R st st end
-unfolding TreesAre records holes
-left-none ok = record { records = omega arith; goals = omega arith; context = refl; trees = tt; grown = grown-none ok }
+unfolding TreesAre PicturesAre records holes
+left-none ok = record { records = omega arith; goals = omega arith; context = refl; trees = tt; pictures = tt; grown = grown-none ok }
 
 -- what one part leaves, then another
 pub left-trans : {l : List ℕ} {R R₁ R₂ : Rooms} {st s₁ s₂ : State} {ts us : Trees} → Left l R R₁ st s₁ ts → Left l R₁ R₂ s₁ s₂ us → Left l R R₂ st s₂ (ts ⊕ us)
@@ -145,6 +151,10 @@ left-trans {l} {R} {R₁} {R₂} {st} {s₁} {s₂} {ts} {us} a b =
           trees-beside l R₂ (countOf l s₂) (st .records) (st .goals) ts us
           (trees-kept l R₁ R₂ (a .grown .arena) (b .grown .props) (b .grown .more) (st .records) (st .goals) ts (λ i lo hi. b .grown .tree i (omega arith)) (λ i lo hi. b .grown .goals i (omega arith)) (a .trees))
           (subst₂ (λ (i j : ℕ). TreesAre l R₂ (countOf l s₂) i j us) er eg (b .trees));
+      pictures =
+          pictures-beside l (R₂ .props) (R₂ .work) (countOf l s₂) (st .goals) ts us
+          (pictures-kept l (R₁ .props) (R₂ .props) (R₁ .work) (R₂ .work) (a .grown .arena) (b .grown .props) (b .grown .more) (b .grown .asks) (st .goals) ts (λ k. b .grown .picture (omega arith)) (a .pictures))
+          (subst (λ (j : ℕ). PicturesAre l (R₂ .props) (R₂ .work) (countOf l s₂) j us) eg (b .pictures));
       grown = grown-trans (a .grown) (b .grown) (omega arith) (omega arith) (omega arith);
     }
 
@@ -156,6 +166,7 @@ left-leave n h a =
       goals = a .goals;
       context = refl;
       trees = a .trees;
+      pictures = a .pictures;
       grown =
           record {
             arena = a .grown .arena;
@@ -164,6 +175,8 @@ left-leave n h a =
             tree = a .grown .tree;
             goals = a .grown .goals;
             work = λ i k. a .grown .work i (omega arith);
+            asks = a .grown .asks;
+            picture = a .grown .picture;
             props-long = a .grown .props-long;
             tree-long = a .grown .tree-long;
             goals-long = a .grown .goals-long;

@@ -22,12 +22,12 @@ use Rattle.rules.specs.Context.{Ctx, entry}
 use Rattle.rules.specs.State.{limit}
 use Rattle.rules.specs.Term.{Single, single, nodes}
 use Rattle.rules.specs.Step.{Want, synth, check, refused, Arity, done, Prog, Kids, refuse, serial, ask, obey, on-prop, resolved}
-use Rattle.rules.specs.Rules.{one, by, annotated, fun-body, abstracted, fun-synth, fun-step, single-step}
+use Rattle.rules.specs.Rules.{one, by, annotated, fun-body, abstracted, fun-synth, fun-step, single-step, opening}
 use Rattle.table.specs.Passing.{Counted}
 use Rattle.table.specs.Reading.{termAt}
 use Rattle.table.specs.Reading.{annotated as written}
 use Rattle.prop.specs.Room.{roomAt, TypeIn}
-use Rattle.context.specs.Context.{Inserted}
+use Rattle.context.specs.Context.{most-entries, Inserted}
 use Rattle.marking.specs.declared.state.State.{State}
 use Rattle.marking.specs.declared.state.Checked.{Checked}
 use Rattle.marking.specs.declared.state.Checked.the-variants as checked
@@ -46,7 +46,7 @@ use Rattle.marking.specs.declared.open.Abstracted.the-variants as abstra
 use Rattle.marking.specs.Rooms.{Rooms, rooms, reads, ctxOf, stOf, countOf, inner, leaving, numbered, deeper, Stands, Loaded, Base}
 use Rattle.marking.specs.Trees.{nodeRec}
 use Rattle.marking.specs.Contract.{Ready, Left, Accepts, Answers, CheckMeets, SynthMeets, runOf}
-use Rattle.marking.specs.Steps.{Making, annotationOf, AnnotationIn, ResolvedTo, ResolvingAs, saying, AgreedOn, AgreedAs, opening, OpenedTo, OpenedAs, AbstractedTo, AbstractedAs}
+use Rattle.marking.specs.Steps.{Making, annotationOf, AnnotationIn, ResolvedTo, ResolvingAs, saying, AgreedOn, AgreedAs, OpenedTo, OpenedAs, AbstractedTo, AbstractedAs}
 use Rattle.marking.proofs.Doing.{Doing, kidAt, doing-start, doing-base, doing-ctx, doing-stands, doing-same, doing-step, doing-stop, doing-ready, doing-checked, doing-checked-stop, doing-synthesized, doing-synthesized-stop, doing-put, doing-fits, doing-has}
 use Rattle.marking.proofs.Frames.{stands-kept}
 use Rattle.marking.proofs.Terms.{single-begins, single-nodes, is-fun, fun-child}
@@ -95,7 +95,7 @@ module _ {l : List ℕ} {R : Rooms} {k : ℕ} {st : State} (rd : Ready l R k st)
   fun-records = omega (arith, rd .records, sizes)
 
   pub fun-serials : (s : State) → s ≡ inner st → s .serials < 65535
-  fun-serials s e = let f = ap (λ (s : State). s .serials) e in omega (arith, rd .serials, sizes)
+  fun-serials s e = let f = ap (λ (s : State). s .serials) e in omega (arith, rd .serials, rd .base .table .counted .few, sizes)
 
   -- what `new_identifier` says, of the state that `inner` answered
   pub fun-fresh : (z : State) → z ≡ inner st → (id : Identifier) (s₀ : State) → id .serial .0 ≡ z .serials → s₀ ≡ numbered z → (id .serial .0 ≡ st .serials) × (s₀ ≡ numbered (inner st))
@@ -155,7 +155,7 @@ module _ {l : List ℕ} {R : Rooms} {k : ℕ} {st : State} (rd : Ready l R k st)
             room .loaded,
             (
               (annotation-among (rd .base .table) (rd .here) r er ann ea (room .loaded), to .parameter-stands .among),
-              (started .made, omega (arith, rd .context, rd .base .work-room, started .left .context)),
+              (started .made, omega (arith, rd .context, rd .base .table .counted .few, rd .base .work-room, started .left .context)),
             ),
           ),
         )
@@ -188,17 +188,19 @@ module _ {l : List ℕ} {R : Rooms} {k : ℕ} {st : State} (rd : Ready l R k st)
             body : Stands l ps₂ (countOf l s₁) (sort.Proposition b) (prop (to .body))
             body = making-stands (on .making) (to .making .arena) (to .body-stands)
 
+            few : s₁ .context < most-entries
+            few = omega (arith, rd .context, rd .base .table .counted .few, sizes, ahead .left .context)
+
             pub chk-fun-enter : (8 * (s₁ .context) + 8 ≤ length (R .work)) × (s₁ .context < 65535)
             chk-fun-enter =
-                let e = ahead .left .context in
-                (omega (arith, rd .context, sizes, rd .base .work-room), omega (arith, rd .context, sizes))
+                (omega (arith, few, rd .base .work-room), omega (arith, few))
 
             module _ (s₂ : State) (work : List ℕ) (e₂ : s₂ ≡ deeper s₁) (ins : Inserted (R .work) (s₁ .context) (record { name = id .name; serial = id .serial; typ = a }) work) where
               abbrev R₃ : Rooms
               R₃ = rooms (R .tree) (R .goals) ps₂ work
 
               entered : Doing l R k (check E) st R₃ s₁ rest-of (kidAt l c₁, tt) 0 1 0
-              entered = doing-step _ 0 ahead (entered-left R₂ s₁ ins (on .making .arena)) (ahead .made) (omega arith) refl
+              entered = doing-step _ 0 ahead (entered-left R₂ s₁ ins (on .making .arena) few) (ahead .made) (omega arith) refl
 
               pub chk-fun-ready : Ready l R₃ c₁ s₂
               chk-fun-ready =
@@ -252,7 +254,7 @@ module _ {l : List ℕ} {R : Rooms} {k : ℕ} {st : State} (rd : Ready l R k st)
       pub syn-fun-resolve : Counted l × (Loaded l (R .props) (countOf l st) × (TypeIn (countOf l st) t × ((st .made ≤ limit) × (8 * (st .context) ≤ length (R .work)))))
       syn-fun-resolve =
           let among = annotation-among (rd .base .table) (rd .here) r er ann ea (rd .base .loaded) in
-          (rd .base .table .counted, (rd .base .loaded, (subst (AnnotationIn (countOf l st)) et among, (rd .base .made, omega (arith, rd .context, rd .base .work-room)))))
+          (rd .base .table .counted, (rd .base .loaded, (subst (AnnotationIn (countOf l st)) et among, (rd .base .made, omega (arith, rd .context, rd .base .table .counted .few, rd .base .work-room)))))
 
       -- the body's type is asked for under a new entry, and then the conclusion is made
       abbrev closing : ℕ → Ty → Ty → Prog done
@@ -287,12 +289,15 @@ module _ {l : List ℕ} {R : Rooms} {k : ℕ} {st : State} (rd : Ready l R k st)
           pub syn-fun-records : s .records < 65535
           syn-fun-records = omega (arith, rd .records, sizes, ap (λ (s : State). s .records) (found .making .state))
 
+          deep-few : s .context < most-entries
+          deep-few = omega (arith, rd .context, rd .base .table .counted .few, sizes, ap (λ (s : State). s .context) (found .making .state))
+
           module _ (s₀ : State) (e₀ : s₀ ≡ inner s) where
             pub syn-fun-enter : (8 * (s₀ .context) + 8 ≤ length (R .work)) × ((s₀ .context < 65535) × (s₀ .serials < 65535))
             syn-fun-enter =
-                let e : s₀ .context ≡ st .context = ap (λ (s : State). s .context) e₀ ∙ ap (λ (s : State). s .context) (found .making .state) in
+                let e : s₀ .context ≡ s .context = ap (λ (s : State). s .context) e₀ in
                 let f : s₀ .serials ≡ st .serials = ap (λ (s : State). s .serials) e₀ ∙ ap (λ (s : State). s .serials) (found .making .state) in
-                (omega (arith, rd .context, sizes, rd .base .work-room), (omega (arith, rd .context, sizes), omega (arith, rd .serials, sizes)))
+                (omega (arith, deep-few, rd .base .work-room), (omega (arith, deep-few), omega (arith, rd .serials, rd .base .table .counted .few, sizes)))
 
             module _ (s₁ : State) (work : List ℕ) (e₁ : s₁ ≡ deeper (numbered s₀))
                 (ins₀ : Inserted (R .work) (s₀ .context) (record { name = r .name1; serial = record { 0 = s₀ .serials }; typ = a }) work) where
@@ -306,7 +311,7 @@ module _ {l : List ℕ} {R : Rooms} {k : ℕ} {st : State} (rd : Ready l R k st)
               ins = subst (λ (s : State). Inserted (R .work) (s .context) (record { name = r .name1; serial = record { 0 = s .serials }; typ = a }) work) e₀ ins₀
 
               inside : Doing l R k synth st Q₂ (numbered (inner s)) (under (found .typ) (s .serials)) (kidAt l c₁, tt) 0 1 0
-              inside = doing-step _ 0 numbered-on (entered-left Q₁ (numbered (inner s)) ins (found .making .arena)) (numbering .made) (omega arith) refl
+              inside = doing-step _ 0 numbered-on (entered-left Q₁ (numbered (inner s)) ins (found .making .arena) deep-few) (numbering .made) (omega arith) refl
 
               pub syn-fun-ready : Ready l Q₂ c₁ s₁
               syn-fun-ready =

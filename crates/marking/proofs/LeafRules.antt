@@ -37,7 +37,10 @@ use Rattle.marking.specs.declared.state.Checked.the-variants as checked
 use Rattle.marking.specs.declared.state.Synthesized.the-variants as synthesized
 use Rattle.marking.specs.Rooms.{Rooms, rooms, reads, ctxOf, stOf, countOf, inner, Stands}
 use Rattle.marking.specs.Trees.{nodeRec, goalRec, PutGoal, TreesAre}
+use Rattle.marking.specs.Picture.{PicturesAre, Pictured}
 use Rattle.marking.specs.Contract.{Ready, Left, runOf, CheckMeets, SynthMeets}
+use Rattle.marking.proofs.Bounds.{ready-context}
+use Rattle.marking.proofs.Holes.{pictured-hole, pictured-entries, pictured-asks, pictured-earlier, pictured-size}
 use Rattle.marking.proofs.Programs.{rest}
 use Rattle.marking.proofs.Doing.{Doing, doing-start, doing-step, doing-stop, doing-fits, doing-has}
 use Rattle.marking.proofs.Moves.{GrownTo, MadeFor, made-for, made-goes, made-more, made-few, full-stops, making-left, making-serials}
@@ -84,9 +87,10 @@ module _ {l : List ℕ} {R : Rooms} {k : ℕ} {st : State} (rd : Ready l R k st)
     unfolding run sorry-run
     sorry-answers = ap (λ (u : Term). run u (check (reads l (R .props) wanted)) Γ (stOf st)) (is-sorry (rd .base .table) (rd .here) kind)
 
-    module _ (nd : Record) (tr : List ℕ) (g : Goal) (gs : List ℕ) (en : nd ≡ nodeRec 15 k wanted none none 0) (put : Put (R .tree) (st .records) nd tr) (eg : g ≡ goalRec k wanted (st .context)) (put′ : PutGoal (R .goals) (st .goals) g gs) where
-      sorry-left : Left l R (rooms tr gs (R .props) (R .work)) st (record { records = st .records + 1; goals = st .goals + 1; serials = st .serials; made = st .made; context = st .context }) hole
-      unfolding TreesAre records holes
+    module _ (nd : Record) (tr : List ℕ) (g : Goal) (gs : List ℕ) (en : nd ≡ nodeRec 15 k wanted none none 0) (put : Put (R .tree) (st .records) nd tr) (eg : g ≡ goalRec k wanted (st .context)) (put′ : PutGoal (R .goals) (st .goals) g gs)
+        (work : List ℕ) (shown : Pictured (R .work) wanted st work) where
+      sorry-left : Left l R (rooms tr gs (R .props) work) st (record { records = st .records + 1; goals = st .goals + 1; serials = st .serials; made = st .made; context = st .context }) hole
+      unfolding TreesAre PicturesAre records holes
       sorry-left =
           record {
             records = omega arith;
@@ -101,6 +105,7 @@ module _ {l : List ℕ} {R : Rooms} {k : ℕ} {st : State} (rd : Ready l R k st)
               },
               tt,
             );
+            pictures = (λ e. pictured-hole rd wanted among work (shown .taken (sym (pictured-asks shown) ∙ sym e)), tt);
             grown =
                 record {
                   arena = rd .base .loaded .arena;
@@ -108,15 +113,17 @@ module _ {l : List ℕ} {R : Rooms} {k : ℕ} {st : State} (rd : Ready l R k st)
                   props = λ i h. refl;
                   tree = λ i h. put .others i (omega arith);
                   goals = λ i h. put′ .others i (omega arith);
-                  work = λ i h. refl;
+                  work = λ i h. pictured-entries shown i (omega (arith, ready-context rd));
+                  asks = pictured-asks shown;
+                  picture = λ h. pictured-earlier shown h;
                   props-long = refl;
                   tree-long = put .size;
                   goals-long = put′ .size;
-                  work-long = refl;
+                  work-long = pictured-size shown;
                 };
           }
 
-      pub sorry-fits : CheckMeets l R (rooms tr gs (R .props) (R .work)) k wanted st (checked.Fits (record { records = st .records + 1; goals = st .goals + 1; serials = st .serials; made = st .made; context = st .context }))
+      pub sorry-fits : CheckMeets l R (rooms tr gs (R .props) work) k wanted st (checked.Fits (record { records = st .records + 1; goals = st .goals + 1; serials = st .serials; made = st .made; context = st .context }))
       sorry-fits = record { answer = record { ty = reads l (R .props) wanted; tree = hole }; accepts = sorry-answers; left = sorry-left }
 
   -- IDENT, asked for its type

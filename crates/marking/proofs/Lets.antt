@@ -16,7 +16,7 @@ use Rattle.rules.specs.State.{limit}
 use Rattle.rules.specs.Term.{Double, double, nodes}
 use Rattle.rules.specs.Tree.{end, records, holes}
 use Rattle.rules.specs.Step.{Want, synth, of, refused, done, Prog, ask}
-use Rattle.rules.specs.Rules.{one, by, let-close, let-step, double-step}
+use Rattle.rules.specs.Rules.{one, by, let-close, let-step, double-step, let-opening, closing}
 use Rattle.table.specs.Reading.{termAt}
 use Rattle.prop.specs.Room.{TypeIn}
 use Rattle.context.specs.Context.{most-entries, context-room}
@@ -30,8 +30,10 @@ use Rattle.marking.specs.declared.open.Closed.{Closed}
 use Rattle.marking.specs.declared.open.Closed.the-variants as closed
 use Rattle.marking.specs.Rooms.{Rooms, rooms, reads, ctxOf, countOf, inner, leaving, most-serials, Stands, Entries, Loaded}
 use Rattle.marking.specs.Trees.{nodeRec, TreesAre}
+use Rattle.marking.specs.Picture.{PicturesAre}
 use Rattle.marking.specs.Contract.{Ready, Left, SynthesizedAs, SynthMeets, runOf}
-use Rattle.marking.specs.Steps.{let-opening, LetEntered, EnteredAs, closing, ClosedAs}
+use Rattle.marking.specs.Steps.{LetEntered, EnteredAs, ClosedAs}
+use Rattle.marking.proofs.Pictures.{asked-same}
 use Rattle.marking.proofs.Frames.{left-none}
 use Rattle.marking.proofs.Doing.{Doing, kidAt, leaving-same, doing-start, doing-same, doing-step, doing-stop, doing-base, doing-ctx, doing-ready, doing-ready-flat, doing-synthesized-stop, doing-put, flat-synthesized}
 use Rattle.marking.proofs.Terms.{double-begins, double-nodes, is-let, let-first, let-second}
@@ -95,7 +97,9 @@ module _ {l : List ℕ} {R : Rooms} {k : ℕ} {st : State} (rd : Ready l R k st)
       let-open-type = (headed .1 .among, head .made)
 
       pub let-open-room : (s .context + 2 ≤ most-entries) × (context-room ≤ length (R₁ .work)) × (s .serials + 2 ≤ most-serials)
-      let-open-room = (omega (arith, rd .context, sizes, head .left .context), doing-base (rd .base) head .work-room, omega (arith, rd .serials, sizes, head .few-serials))
+      let-open-room =
+          let few = rd .base .table .counted .few in
+          (omega (arith, rd .context, few, sizes, head .left .context), omega (arith, doing-base (rd .base) head .work-room), omega (arith, rd .serials, few, sizes, head .few-serials))
 
       -- THE HEAD OPENED
       module _ (ps' work' : List ℕ) (o : Entered) (m : EnteredAs l (R₁ .props) (R₁ .work) ps' work' (r .name1 .0) (r .name2 .0) t (either w 12 22) k c₁ s o) where
@@ -113,7 +117,7 @@ module _ {l : List ℕ} {R : Rooms} {k : ℕ} {st : State} (rd : Ready l R k st)
           deep = ap (λ (s : State). s .context) (new .state) ∙ ap (λ (n : ℕ). n + 2) (head .left .context)
 
           opened-left : Left l R₁ R₂ s (leaving s₁ (st .context)) end
-          unfolding TreesAre records holes
+          unfolding TreesAre PicturesAre records holes
           opened-left =
               let er = ap (λ (s : State). s .records) (new .state) in
               let eg = ap (λ (s : State). s .goals) (new .state) in
@@ -123,6 +127,7 @@ module _ {l : List ℕ} {R : Rooms} {k : ℕ} {st : State} (rd : Ready l R k st)
                 goals = omega arith;
                 context = sym (head .left .context);
                 trees = tt;
+                pictures = tt;
                 grown =
                     record {
                       arena = new .arena;
@@ -131,6 +136,8 @@ module _ {l : List ℕ} {R : Rooms} {k : ℕ} {st : State} (rd : Ready l R k st)
                       tree = λ i h. refl;
                       goals = λ i h. refl;
                       work = new .kept;
+                      asks = asked-same (R₁ .work) work' (new .picture);
+                      picture = λ k. new .picture;
                       props-long = new .long;
                       tree-long = refl;
                       goals-long = refl;

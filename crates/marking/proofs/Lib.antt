@@ -1,5 +1,7 @@
 -- What the proofs of several functions use.
 pub mod Programs
+pub mod Taking
+pub mod Pictures
 pub mod Frames
 pub mod Doing
 pub mod Terms
@@ -13,6 +15,7 @@ pub mod Annotations
 pub mod Typings
 pub mod Openings
 pub mod Objects
+pub mod Holes
 pub mod LeafRules
 pub mod Pairs
 pub mod PairsMade

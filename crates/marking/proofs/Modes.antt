@@ -18,7 +18,7 @@ use Rattle.rules.specs.Tree.{end}
 use Rattle.rules.specs.Step.{Want, synth, check, of, refused, Arity, Prog, conclude, serial, ask, Kids, obey}
 use Rattle.table.specs.Reading.{termAt}
 use Rattle.prop.specs.Room.{TypeIn}
-use Rattle.context.specs.Context.{Inserted}
+use Rattle.context.specs.Context.{most-entries, Inserted}
 use Rattle.marking.specs.declared.state.State.{State}
 use Rattle.marking.specs.declared.state.Checked.{Checked}
 use Rattle.marking.specs.declared.state.Checked.the-variants as checked
@@ -130,20 +130,23 @@ own-done (check E) g v T d says answers e put = doing-fits d {T = T} says e put
 -- A FRESH IDENTIFIER of the type T, and its entry: what `enter_fresh` asks, and how the rule goes on
 module _ {l : List ℕ} {R₀ : Rooms} {k : ℕ} {w : Want} {st₀ : State} {R : Rooms} {s : State} {a : Arity} {q : ℕ → Prog a} {ks : Kids a} {used own wide : ℕ} (rd : Ready l R₀ k st₀)
     (d : Doing l R₀ k w st₀ R s (serial q) ks used own wide) where
+  fresh-few : s .context < most-entries
+  fresh-few = omega (arith, rd .context, rd .base .table .counted .few, nodes-some (termAt l k), d .left .context)
+
   pub fresh-room : 8 * (s .context) + 8 ≤ length (R .work)
-  fresh-room = omega (arith, rd .context, nodes-some (termAt l k), d .left .context, rd .base .work-room, d .left .grown .work-long)
+  fresh-room = omega (arith, fresh-few, rd .base .work-room, d .left .grown .work-long)
 
   pub fresh-counts : 1 + used ≤ nodes (termAt l k) → own ≤ 1 → (s .context < 65535) × (s .serials < 65535)
-  fresh-counts n o = (omega (arith, rd .context, nodes-some (termAt l k), d .left .context), omega (arith, rd .serials, d .few-serials))
+  fresh-counts n o = (omega (arith, fresh-few), omega (arith, rd .serials, rd .base .table .counted .few, d .few-serials))
 
   module _ {x : Name} {T : Sort} {A : Ty} (says : Stands l (R .props) (countOf l s) T A) {work' : List ℕ} {s₁ : State}
       (en : (s₁ ≡ deeper (numbered s)) × Inserted (R .work) (s .context) (record { name = x; serial = record { 0 = s .serials }; typ = T }) work') where
     pub fresh : Doing l R₀ k w st₀ (rooms (R .tree) (R .goals) (R .props) work') (numbered s) (q (s .serials)) ks used (own + 1) wide
     unfolding obey
     fresh =
-        let a = entered-left R s (en .1) {l = l} (d .left .grown .arena) in
+        let a = entered-left R s (en .1) {l = l} (d .left .grown .arena) fresh-few in
         let e : suc (s .serials) ≡ s .serials + 1 = omega arith in
-        doing-step (q (s .serials)) 1 d (record { records = a .records; goals = a .goals; context = a .context; trees = a .trees; grown = a .grown }) (d .made) (omega arith)
+        doing-step (q (s .serials)) 1 d (record { records = a .records; goals = a .goals; context = a .context; trees = a .trees; pictures = a .pictures; grown = a .grown }) (d .made) (omega arith)
         (λ i. obey (q (s .serials)) ks (record { serials = e i; made = s .made }))
 
     pub fresh-ctx : entry (x .0) (s .serials) A ∷ ctxOf l (R₀ .props) (R₀ .work) (st₀ .context) ≡ ctxOf l (R .props) work' (s .context + 1)

@@ -25,13 +25,15 @@ use Rattle.making.specs.Copy.{Makes, most-records}
 use Rattle.making.specs.Make.{MadeIs, PutIs}
 use Rattle.prop.proofs.Rooms.{type-same, type-more}
 use Rattle.context.specs.declared.identifier_context.Entry.{Entry}
-use Rattle.context.specs.Context.{entryAt, Inserted, stands}
+use Rattle.context.specs.Context.{entryAt, most-entries, Inserted, stands}
 use Rattle.context.proofs.Laws.{ctx-inserted}
 use Rattle.marking.specs.declared.state.State.{State}
 use Rattle.marking.specs.Rooms.{Rooms, rooms, reads, ctxOf, stOf, countOf, numbered, Stands, Entries, Loaded, Base}
 use Rattle.marking.specs.Trees.{TreesAre}
+use Rattle.marking.specs.Picture.{PicturesAre}
 use Rattle.marking.specs.Contract.{Left}
 use Rattle.marking.specs.Steps.{Making}
+use Rattle.marking.proofs.Pictures.{asked-same, entered-picture}
 use Rattle.marking.proofs.Frames.{entries-kept, ctx-kept, loaded-kept, grown-none}
 
 -- WHAT HOLDS OF THE ROOMS still does, after whatever left them so
@@ -86,7 +88,7 @@ module _ {l ps ps' : List ℕ} {st st' : State} (mk : Making l ps ps' st st') wh
 
 module _ (R : Rooms) {l ps' : List ℕ} {st st' : State} (mk : Making l (R .props) ps' st st') where
   pub making-left : Left l R (rooms (R .tree) (R .goals) ps' (R .work)) st st' end
-  unfolding TreesAre records holes
+  unfolding TreesAre PicturesAre records holes
   making-left =
       let er = ap (λ (s : State). s .records) (mk .state) in
       let eg = ap (λ (s : State). s .goals) (mk .state) in
@@ -95,6 +97,7 @@ module _ (R : Rooms) {l ps' : List ℕ} {st st' : State} (mk : Making l (R .prop
         goals = omega arith;
         context = making-context mk;
         trees = tt;
+        pictures = tt;
         grown =
             record {
               arena = mk .arena;
@@ -103,6 +106,8 @@ module _ (R : Rooms) {l ps' : List ℕ} {st st' : State} (mk : Making l (R .prop
               tree = λ m h. refl;
               goals = λ m h. refl;
               work = λ m h. refl;
+              asks = refl;
+              picture = λ k i h. refl;
               props-long = mk .long;
               tree-long = refl;
               goals-long = refl;
@@ -220,19 +225,20 @@ module _ (l ps ps' : List ℕ) (c left n i : ℕ) (st : State) (o : Made) (ec : 
 
 -- A SERIAL TAKEN
 pub numbered-left : {l : List ℕ} {R : Rooms} {st : State} → Arena (R .props) (countOf l st) → Left l R R st (numbered st) end
-unfolding TreesAre records holes
-numbered-left ok = record { records = omega arith; goals = omega arith; context = refl; trees = tt; grown = grown-none ok }
+unfolding TreesAre PicturesAre records holes
+numbered-left ok = record { records = omega arith; goals = omega arith; context = refl; trees = tt; pictures = tt; grown = grown-none ok }
 
 -- AN ENTRY INSERTED. The state that still has as many entries as before is left the same; the new entry is above them
 module _ (R : Rooms) (st : State) {e : Entry} {work' : List ℕ} (ins : Inserted (R .work) (st .context) e work') where
-  pub entered-left : {l : List ℕ} → Arena (R .props) (countOf l st) → Left l R (rooms (R .tree) (R .goals) (R .props) work') st st end
-  unfolding TreesAre records holes
-  entered-left ok =
+  pub entered-left : {l : List ℕ} → Arena (R .props) (countOf l st) → st .context < most-entries → Left l R (rooms (R .tree) (R .goals) (R .props) work') st st end
+  unfolding TreesAre PicturesAre records holes
+  entered-left ok few =
       record {
         records = omega arith;
         goals = omega arith;
         context = refl;
         trees = tt;
+        pictures = tt;
         grown =
             record {
               arena = ok;
@@ -241,6 +247,8 @@ module _ (R : Rooms) (st : State) {e : Entry} {work' : List ℕ} (ins : Inserted
               tree = λ m h. refl;
               goals = λ m h. refl;
               work = λ m h. ins .others m (omega arith);
+              asks = asked-same (R .work) work' (entered-picture ins few);
+              picture = λ k. entered-picture ins few;
               props-long = refl;
               tree-long = refl;
               goals-long = refl;

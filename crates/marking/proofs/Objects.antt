@@ -15,7 +15,8 @@ use Rattle.rules.specs.Prop.{Prop, Ty, ex, put, size, prop, datatype}
 use Rattle.rules.specs.Context.{Entry as Hypothesis, Ctx, find, entry}
 use Rattle.rules.specs.State.{St, limit, next}
 use Rattle.rules.specs.Term.{Term, ident-name}
-use Rattle.rules.specs.Step.{Arity, more, Prog, refuse, Kids, refused, named, obey, on-found, look-up}
+use Rattle.rules.specs.Step.{Arity, more, Prog, refuse, Kids, refused, named, obey, on-found, look-up, objected}
+use Rattle.rules.specs.Rules.{let-opening}
 use Rattle.table.specs.Passing.{Counted}
 use Rattle.table.specs.Reading.{annotated, ascribed, term-of, termAt}
 use Rattle.table.proofs.Reading.{term-step}
@@ -35,7 +36,8 @@ use Rattle.marking.specs.declared.state.State.{State}
 use Rattle.marking.specs.declared.open.Object.the-variants as object
 use Rattle.marking.specs.Heads.{Over, OverAs}
 use Rattle.marking.specs.Rooms.{Table, rooms, reads, ctxOf, stOf, countOf, numbered, deeper, Entries, most-serials}
-use Rattle.marking.specs.Steps.{Stops, objected, ObjectAs, let-opening, LetEntered}
+use Rattle.marking.specs.Steps.{Stops, ObjectAs, LetEntered}
+use Rattle.marking.proofs.Pictures.{entered-picture}
 use Rattle.marking.proofs.Terms.{is-ident}
 use Rattle.marking.proofs.Moves.{GrownTo, MadeFor, made-for, made-more, made-few, make-goes, make-stops, full-room, entered-entries}
 
@@ -68,7 +70,7 @@ module _ {l : List ℕ} (table : Table l) {t : ℕ} (h : t < terms l) (r : TermR
   unfolding objected obey named
   object-none d a n m k ks e =
       let no : ident-name (termAt l t) ≡ none =
-      ap ident-name (term-step (table .linked .linked) t h)
+      ap ident-name (term-step (table .directed) t h)
       ∙ other-name t (annotated l t) (termAt l) (termRecord l t .kind) (termRecord l t) (subst (λ (r : TermRecord). r .kind ≡ 0 → ⊥) er d) in
       ap (λ (x : Option ℕ). named x (refused n t) (λ y. obey (look-up m t Γ y (λ e. k (e .serial))) ks (stOf st))) (e ∙ no)
 
@@ -131,7 +133,7 @@ module _ (l ps work : List ℕ) (H : Sort) (n p head : ℕ) (st : State) (count 
         made = made-for l ps ps' count left st _ _ z ec el makes s m end q grown
 
         module _ (x y : Name) (s₁ s₂ : State) (w₁ w₂ : List ℕ) (e₁ : s₁ ≡ deeper (numbered s)) (ins₁ : Inserted work (s .context) (record { name = x; serial = record { 0 = s .serials }; typ = sort.Datatype D }) w₁)
-            (e₂ : s₂ ≡ deeper (numbered s₁)) (ins₂ : Inserted w₁ (s₁ .context) (record { name = y; serial = record { 0 = s₁ .serials }; typ = sort.Proposition m }) w₂) where
+            (e₂ : s₂ ≡ deeper (numbered s₁)) (ins₂ : Inserted w₁ (s₁ .context) (record { name = y; serial = record { 0 = s₁ .serials }; typ = sort.Proposition m }) w₂) (few : st .context + 2 ≤ most-entries) where
           abbrev first : Entry
           first = record { name = x; serial = record { 0 = st .serials }; typ = sort.Datatype D }
 
@@ -182,6 +184,7 @@ module _ (l ps work : List ℕ) (H : Sort) (n p head : ℕ) (st : State) (count 
                 same = made .making .same;
                 long = made .making .long;
                 kept = λ j h. put₂ .others j (omega arith) ∙ put₁ .others j (omega arith);
+                picture = λ j h. entered-picture put₂ (omega arith) j h ∙ entered-picture put₁ (omega arith) j h;
                 work-long = put₂ .size ∙ put₁ .size;
                 entries =
                     λ old. subst (λ (n : ℕ). Entries w₂ n (countOf l last)) (twice (st .context))

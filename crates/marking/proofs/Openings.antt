@@ -11,7 +11,7 @@ use Rattle.layout.specs.File.{props}
 use Rattle.rules.specs.Prop.{made, Prop, Quant, link, quant, prop, datatype, imp, all, ex, put, bind, holds, size}
 use Rattle.rules.specs.State.{limit}
 use Rattle.rules.specs.Step.{Prog, refuse, obey, on-prop}
-use Rattle.rules.specs.Rules.{by, abstracted}
+use Rattle.rules.specs.Rules.{by, abstracted, opening, closing}
 use Rattle.table.specs.Passing.{Counted}
 use Rattle.prop.specs.declared.head.Parts.{Parts}
 use Rattle.prop.specs.declared.head.Parts.the-variants as two
@@ -27,7 +27,7 @@ use Rattle.marking.specs.declared.open.Closed.the-variants as closed
 use Rattle.marking.specs.declared.open.Abstracted.the-variants as abstraction
 use Rattle.marking.specs.Heads.{Split, Unsplit, SplitAs, Over, NotOver, OverAs}
 use Rattle.marking.specs.Rooms.{stOf, countOf, Loaded}
-use Rattle.marking.specs.Steps.{opening, OpenedAs, closing, ClosedAs, AbstractedAs}
+use Rattle.marking.specs.Steps.{OpenedAs, ClosedAs, AbstractedAs}
 use Rattle.marking.proofs.Moves.{making-none, MadeFor, made-goes, GrownTo, made-for, made-more, made-few, full-stops, put-made, put-stops}
 
 -- a quantifier's body is among the propositions

@@ -9,11 +9,11 @@ use Rattle.rules.specs.Term.{nodes}
 use Rattle.layout.specs.File.{terms}
 use Rattle.table.specs.Passing.{Good}
 use Rattle.table.specs.Reading.{termAt}
+use Rattle.table.proofs.Links.{directed}
 use Rattle.table.proofs.Counting.{nodes-root}
 use Rattle.table.proofs.Passing.{good-passed}
-use Rattle.context.specs.Context.{context-room}
 use Rattle.marking.specs.declared.state.State.{State}
-use Rattle.marking.specs.Rooms.{Rooms, Loaded, countOf, most-nodes, most-goals}
+use Rattle.marking.specs.Rooms.{Rooms, Loaded, countOf, most-nodes, most-goals, run-room}
 use Rattle.marking.specs.Contract.{Ready}
 
 -- nothing made yet
@@ -21,7 +21,7 @@ abbrev pub nothing : State
 nothing = record { records = 0; goals = 0; serials = 0; made = 0; context = 0 }
 
 pub ready-root : {l : List ℕ} (R : Rooms) → Good Check l → Loaded l (R .props) (countOf l nothing) → 16 * most-nodes ≤ length (R .tree) → 8 * most-goals ≤ length (R .goals)
-    → context-room ≤ length (R .work) → Ready l R 0 nothing
+    → run-room ≤ length (R .work) → Ready l R 0 nothing
 ready-root {l} R good loaded tree goals work =
     let p = good-passed good in
     let some : 0 < terms l = omega (arith, p .counted .some) in
@@ -29,7 +29,7 @@ ready-root {l} R good loaded tree goals work =
     record {
       base =
           record {
-            table = record { counted = p .counted; formed = p .formed; linked = record { purpose = Check; linked = p .linked } };
+            table = record { counted = p .counted; formed = p .formed; directed = directed (p .linked) };
             loaded = loaded;
             entries = λ i h. absurd (omega arith);
             made = omega arith;

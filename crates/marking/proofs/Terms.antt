@@ -2,57 +2,27 @@
 use mathlib.Core.Path.{_≡_, refl, ap, sym, subst, subst⁻¹, _∙_}
 use mathlib.Core.Bool.{Bool, true, false, cond}
 use mathlib.Core.List.{List, [], _∷_}
-use mathlib.Core.Option.{Option, none, some}
-use Prim.Native.Nat.{ℕ, zero, suc, _+_, _<_, _≤_}
+use Prim.Native.Nat.{ℕ, _+_, _<_, _≤_}
 use native.Mathlib.Omega.{arith}
 use lib.Dec.{eqb}
 use Rattle.layout.specs.declared.record.TermRecord.{TermRecord}
-use Rattle.layout.specs.File.{terms, termRecord, Kind, Ident, Pair, ProjectFst, ProjectSnd, Function, Application, LetIn, OrLeft, OrRight, Case, Abort, TheUnit, TypeAscription, Sorry, Strange, kinds, kind-of}
+use Rattle.layout.specs.File.{terms, termRecord, Kind, Ident, Pair, ProjectFst, ProjectSnd, Function, Application, LetIn, OrLeft, OrRight, Case, Abort, TheUnit, TypeAscription, Sorry, kinds, kind-of}
 use Rattle.layout.specs.Form.{term-shape}
-use Rattle.rules.specs.Prop.{Ty}
 use Rattle.rules.specs.Context.{Ctx}
 use Rattle.rules.specs.Term.{Leaf, Single, Double, Triple, Term, leaf, single, double, triple, sorry, nodes, place}
 use Rattle.rules.specs.Tree.{end}
 use Rattle.rules.specs.Step.{Want, Answer, Out, Arity, Step, Kids, obey}
 use Rattle.rules.specs.Rules.{run, leaf-step, single-step, double-step, triple-step}
 use Rattle.table.specs.Links.{hits, term-children, term-links}
-use Rattle.table.specs.Reading.{annotated, ascribed, term-of, term-within, termAt}
+use Rattle.table.specs.Reading.{annotated, ascribed, term-of, termAt}
 use Rattle.table.proofs.Sums.{hit-here, hit-later}
 use Rattle.table.proofs.Links.{term-child}
-use Rattle.table.proofs.Reading.{term-step}
+use Rattle.table.proofs.Reading.{term-step, place-at}
 use Rattle.marking.specs.declared.state.State.{State}
 use Rattle.marking.specs.Rooms.{Rooms, ctxOf, stOf, Table}
 use Rattle.marking.specs.Contract.{runOf}
 use Rattle.marking.proofs.Programs.{rest, rest-start}
 use Rattle.marking.proofs.Doing.{kidAt}
-
--- A TERM'S PLACE is its record's number
-place-of : (t : ℕ) (A : Option Ty) (sub : ℕ → Term) (K : Kind) (r : TermRecord) → place (term-of t A sub K r) ≡ t
-unfolding place term-of ascribed
-place-of t A sub Ident r = refl
-place-of t A sub Pair r = refl
-place-of t A sub ProjectFst r = refl
-place-of t A sub ProjectSnd r = refl
-place-of t A sub Function r = refl
-place-of t A sub Application r = refl
-place-of t A sub LetIn r = refl
-place-of t A sub OrLeft r = refl
-place-of t A sub OrRight r = refl
-place-of t A sub Case r = refl
-place-of t A sub Abort r = refl
-place-of t A sub TheUnit r = refl
-place-of t none sub TypeAscription r = refl
-place-of t (some B) sub TypeAscription r = refl
-place-of t A sub Sorry r = refl
-place-of t A sub Strange r = refl
-
-pub place-at : (l : List ℕ) (t : ℕ) → place (termAt l t) ≡ t
-unfolding termAt place term-within
-place-at l t = at (terms l)
-  where
-    at : (f : ℕ) → place (term-within f l t) ≡ t
-    at zero = refl
-    at (suc f) = place-of t (annotated l t) (term-within f l) (kind-of (termRecord l t .kind)) (termRecord l t)
 
 -- HOW A TERM BEGINS, from its shape: the rule's program, over its children
 module _ (l : List ℕ) (k : ℕ) (R : Rooms) (w : Want) (st : State) where
@@ -113,10 +83,10 @@ module _ {l : List ℕ} (table : Table l) {k : ℕ} (h : k < terms l) where
   c₃ = rec .child3 .0
 
   term-as : (K : Kind) → kind-of (rec .kind) ≡ K → termAt l k ≡ term-of k (annotated l k) (termAt l) K rec
-  term-as K e = term-step (table .linked .linked) k h ∙ ap (λ (K : Kind). term-of k (annotated l k) (termAt l) K rec) e
+  term-as K e = term-step (table .directed) k h ∙ ap (λ (K : Kind). term-of k (annotated l k) (termAt l) K rec) e
 
   child-as : (K : Kind) → kind-of (rec .kind) ≡ K → (m : ℕ) → 0 < hits m (term-children (term-shape K .children) rec) → (k < m) × (m < terms l)
-  child-as K e m x = term-child (table .linked .linked) k m h (subst⁻¹ (λ (K : Kind). 0 < hits m (term-children (term-shape K .children) rec)) e x)
+  child-as K e m x = term-child (table .directed) k m h (subst⁻¹ (λ (K : Kind). 0 < hits m (term-children (term-shape K .children) rec)) e x)
 
   module _ (K : Kind) (e : kind-of (rec .kind) ≡ K) where
     only : term-shape K .children ≡ 1 → (k < c₁) × (c₁ < terms l)

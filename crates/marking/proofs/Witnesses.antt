@@ -20,7 +20,7 @@ use Rattle.rules.specs.Context.{Ctx}
 use Rattle.rules.specs.State.{limit}
 use Rattle.rules.specs.Term.{Double, double, nodes}
 use Rattle.rules.specs.Tree.{end}
-use Rattle.rules.specs.Step.{check, refused, Prog, refuse, make, ask, obey, on-quant}
+use Rattle.rules.specs.Step.{check, refused, Prog, refuse, make, ask, obey, on-quant, objected}
 use Rattle.rules.specs.Rules.{one, two, by, pair-step, double-step}
 use Rattle.table.specs.Reading.{termAt}
 use Rattle.prop.specs.declared.head.Quantified.{Quantified}
@@ -36,7 +36,7 @@ use Rattle.marking.specs.declared.state.Checked.{Checked}
 use Rattle.marking.specs.declared.state.Checked.the-variants as checked
 use Rattle.marking.specs.Heads.{Unsplit, Over, NotOver, OverAs}
 use Rattle.marking.specs.Rooms.{Rooms, rooms, reads, ctxOf, stOf, countOf, inner, Stands}
-use Rattle.marking.specs.Steps.{objected, ObjectAs}
+use Rattle.marking.specs.Steps.{ObjectAs}
 use Rattle.marking.specs.Trees.{nodeRec}
 use Rattle.marking.specs.Contract.{Ready, Accepts, CheckMeets, runOf}
 use Rattle.marking.proofs.Programs.{rest, rest-refused}

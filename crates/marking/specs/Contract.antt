@@ -9,33 +9,33 @@ use Rattle.layout.specs.File.{terms}
 use mathlib.Core.Bool.{Bool, _||_}
 use mathlib.Core.List.{[], _∷_}
 use lib.Dec.{eqb}
-use Rattle.rules.specs.Prop.{Ty, prop, datatype, all, put, size}
-use Rattle.rules.specs.Context.{Ctx}
+use Rattle.rules.specs.Prop.{Ty}
 use Rattle.rules.specs.Term.{nodes}
 use Rattle.rules.specs.Tree.{Trees, records, holes}
-use Rattle.rules.specs.Step.{Want, synth, check, Out, refused, ok, Answer, Steps, Prog, refuse, make, name-of, ask, obey, on-quant, look-up}
-use Rattle.rules.specs.Rules.{one, by, kid, run}
+use Rattle.rules.specs.Step.{Want, synth, check, Out, refused, ok, Answer, Steps, obey}
+use Rattle.rules.specs.Rules.{kid, run, applying}
 use Rattle.table.specs.Reading.{termAt}
 use Rattle.prop.specs.Room.{Arena}
-use Rattle.context.specs.Context.{SameEntries, most-entries}
+use Rattle.context.specs.Context.{SameEntries}
 use Rattle.marking.specs.declared.state.State.{State}
 use Rattle.marking.specs.declared.state.Checked.{Checked}
 use Rattle.marking.specs.declared.state.Checked.the-variants as checked
 use Rattle.marking.specs.declared.state.Synthesized.{Synthesized}
 use Rattle.marking.specs.declared.state.Synthesized.the-variants as synthesized
-use Rattle.marking.specs.Rooms.{Rooms, Base, Stands, reads, ctxOf, stOf, countOf, most-nodes, most-goals, most-serials}
+use Rattle.marking.specs.Rooms.{Rooms, Base, Stands, reads, ctxOf, stOf, countOf, most-nodes, most-goals}
 use Rattle.marking.specs.Trees.{SameGoals, TreesAre}
+use Rattle.marking.specs.Picture.{asked, SamePicture, PicturesAre}
 
--- BEFORE: the rooms have space for all that the term can come to
+-- BEFORE: the rooms have space for all that the term can come to; the table's other terms gave at most two serials and two entries each
 pub record Ready (l : List ℕ) (R : Rooms) (k : ℕ) (st : State) : Type 0 where
   pub base : Base l R st
   pub here : k < terms l
   pub records : st .records + 2 * nodes (termAt l k) ≤ most-nodes
   pub goals : st .goals + nodes (termAt l k) ≤ most-goals
-  pub serials : st .serials + 2 * nodes (termAt l k) ≤ most-serials
-  pub context : st .context + 2 * nodes (termAt l k) ≤ most-entries
+  pub serials : st .serials + 2 * nodes (termAt l k) ≤ 2 * terms l
+  pub context : st .context + 2 * nodes (termAt l k) ≤ 2 * terms l
 
--- THE FRAME: there are now d propositions; the first c of them, r tree records, g goals and n entries are kept
+-- THE FRAME: there are now d propositions; the first c of them, r tree records, g goals and n entries are kept, and the picture if it is of such a goal
 pub record Grown (R R' : Rooms) (c d r g n : ℕ) : Type 0 where
   pub arena : Arena (R' .props) d
   pub more : c ≤ d
@@ -43,6 +43,8 @@ pub record Grown (R R' : Rooms) (c d r g n : ℕ) : Type 0 where
   pub tree : Same r (R .tree) (R' .tree)
   pub goals : SameGoals g (R .goals) (R' .goals)
   pub work : SameEntries n (R .work) (R' .work)
+  pub asks : asked (R' .work) ≡ asked (R .work)
+  pub picture : asked (R .work) < g → SamePicture (R .work) (R' .work)
   pub props-long : length (R' .props) ≡ length (R .props)
   pub tree-long : length (R' .tree) ≡ length (R .tree)
   pub goals-long : length (R' .goals) ≡ length (R .goals)
@@ -54,6 +56,7 @@ pub record Left (l : List ℕ) (R R' : Rooms) (st st' : State) (ts : Trees) : Ty
   pub goals : st' .goals ≡ st .goals + holes ts
   pub context : st' .context ≡ st .context
   pub trees : TreesAre l R' (countOf l st') (st .records) (st .goals) ts
+  pub pictures : PicturesAre l (R' .props) (R' .work) (countOf l st') (st .goals) ts
   pub grown : Grown R R' (countOf l st) (countOf l st') (st .records) (st .goals) (st .context)
 
 -- the rules accept, with these counts, and their tree is left
@@ -90,17 +93,7 @@ SynthMeets l R R' k st r = SynthesizedAs l R R' st (runOf l R k synth st) r
 unfoldable pub synthesizes : ℕ → Bool
 synthesizes k = eqb k 0 || (eqb k 2 || (eqb k 3 || eqb k 5))
 
--- IN THE MIDDLE of an application k, whose function f has a type F that is no Impl, before its argument x: what is left of the rule
-unfoldable pub applying : (p p-fun p-arg : ℕ) → Ctx → Ty → Prog one
-applying p p-fun p-arg Γ F =
-    on-quant all F (λ x D B.
-    name-of 24 p-arg λ y.
-    look-up 20 p-arg Γ y λ e.
-    ask (check (datatype D)) Γ λ _.
-    make (size B) p
-    (by 12 p (prop (put (e .serial) B)) []))
-    (refuse 22 p-fun)
-
+-- IN THE MIDDLE of an application k, whose function f has a type F that is no Impl, before its argument x: `applying` is what is left of the rule
 pub record Applied (l : List ℕ) (R R' : Rooms) (k : ℕ) (st st' : State) (T : Sort) (o : Out Steps) : Type 0 where
   pub typ : Ty
   pub premises : Trees

@@ -11,10 +11,10 @@ use Rattle.rules.specs.Prop.{Ty}
 use Rattle.rules.specs.Context.{Ctx}
 use Rattle.rules.specs.State.{St, limit}
 use Rattle.table.specs.Reading.{propAt}
-use Rattle.table.specs.Passing.{Counted, Formed, WellLinked}
+use Rattle.table.specs.Passing.{Counted, Formed, Directed}
 use Rattle.prop.specs.Room.{roomAt, typeAt, TypeIn, Arena}
 use Rattle.making.specs.Copy.{most-records}
-use Rattle.context.specs.Context.{entryAt, SameEntries, ctxAt, most-entries, context-room}
+use Rattle.context.specs.Context.{entryAt, ctxAt, most-entries}
 use Rattle.marking.specs.declared.state.State.{State}
 
 -- WHAT A RUN MAY COME TO: no term gives more than two tree records (its own and an AlphaEq), two serials, one goal
@@ -27,6 +27,13 @@ most-goals = most-terms
 abbrev pub most-serials : ℕ
 most-serials = 2 * most-terms
 
+-- THE WORK ROOM: the context's entries, and behind them a goal's picture (Picture.antt), whose own entries come after a head of two entries' worth
+abbrev pub first-pictured : ℕ
+first-pictured = most-entries + 2
+
+abbrev pub run-room : ℕ
+run-room = 8 * (first-pictured + most-entries)
+
 -- THE COUNTS
 abbrev pub stOf : State → St
 stOf st = record { serials = st .serials; made = st .made }
@@ -38,6 +45,10 @@ countOf l st = props l + st .made
 -- one record further
 abbrev pub inner : State → State
 inner st = record { records = st .records + 1; goals = st .goals; serials = st .serials; made = st .made; context = st .context }
+
+-- from where a filling starts: nothing of its own yet
+abbrev pub starting : State → State
+starting st = record { records = 0; goals = 0; serials = st .serials; made = st .made; context = st .context }
 
 -- with so many entries
 abbrev pub leaving : State → ℕ → State
@@ -81,11 +92,11 @@ pub record Stands (l ps : List ℕ) (c : ℕ) (T : Sort) (A : Ty) : Type 0 where
 abbrev pub Entries : List ℕ → ℕ → ℕ → Type 0
 Entries work n c = (i : ℕ) → i < n → TypeIn c (entryAt work i .typ)
 
--- a table that passed tests 3 to 5
+-- a table that passed tests 3 and 4, and of 5 that its links go the right way
 pub record Table (l : List ℕ) : Type 0 where
   pub counted : Counted l
   pub formed : Formed l
-  pub linked : WellLinked l
+  pub directed : Directed l
 
 -- a propositions room of c propositions, the table's first
 pub record Loaded (l ps : List ℕ) (c : ℕ) : Type 0 where
@@ -102,4 +113,4 @@ pub record Base (l : List ℕ) (R : Rooms) (st : State) : Type 0 where
   pub made : st .made ≤ limit
   pub tree-room : 16 * most-nodes ≤ length (R .tree)
   pub goals-room : 8 * most-goals ≤ length (R .goals)
-  pub work-room : context-room ≤ length (R .work)
+  pub work-room : run-room ≤ length (R .work)

@@ -1,7 +1,7 @@
 -- Parts of the rules that do not recurse: what the functions for them promise. Each says how a rule's program goes on, or where it stops, for
 -- whatever comes after that part. Assumes nothing.
 use mathlib.Core.Path.{_≡_}
-use mathlib.Core.Bool.{Bool, cond}
+use mathlib.Core.Bool.{Bool}
 use mathlib.Core.List.{List, [], _∷_}
 use mathlib.Core.Option.{Option, none, some}
 use Prim.Native.Nat.{ℕ, zero, suc, _+_, _<_, _≤_}
@@ -13,11 +13,11 @@ use Rattle.number.specs.declared.Type.{«Type» as Sort}
 use Rattle.number.specs.declared.Type.the-variants as sort
 use Rattle.number.specs.Records.{Same}
 use Rattle.layout.specs.File.{props}
-use Rattle.rules.specs.Prop.{Prop, Ty, prop, datatype, imp, all, ex, put, holds, size}
-use Rattle.rules.specs.Context.{Ctx, entry}
+use Rattle.rules.specs.Prop.{Prop, Ty, prop, datatype}
+use Rattle.rules.specs.Context.{entry}
 use Rattle.rules.specs.State.{limit}
-use Rattle.rules.specs.Step.{Arity, more, done, Prog, refuse, serial, make, name-of, Kids, Out, refused, Steps, obey, on-link, on-quant, on-prop, look-up, resolved}
-use Rattle.rules.specs.Rules.{by, annotated, abstracted}
+use Rattle.rules.specs.Step.{Arity, more, done, Prog, Kids, Out, refused, Steps, obey, resolved, objected}
+use Rattle.rules.specs.Rules.{by, annotated, abstracted, opening, let-opening, closing}
 use Rattle.rules.specs.Term.{ident-name}
 use Rattle.table.specs.Reading.{termAt}
 use Rattle.prop.specs.Room.{roomAt, TypeIn, Arena}
@@ -40,6 +40,7 @@ use Rattle.marking.specs.declared.open.Closed.the-variants as closed
 use Rattle.marking.specs.declared.open.Abstracted.{Abstracted}
 use Rattle.marking.specs.declared.open.Abstracted.the-variants as abstraction
 use Rattle.marking.specs.Rooms.{stOf, countOf, making, reads, ctxOf, Stands, Entries}
+use Rattle.marking.specs.Picture.{SamePicture}
 
 -- A PROGRAM goes on as another, or stops
 abbrev pub Goes : {n : Arity} → Prog n → State → Prog n → State → Type 0
@@ -101,9 +102,6 @@ AgreedAs l ps work ps' ann A st (agreed.On st') = AgreedOn l ps work ps' ann A s
 AgreedAs l ps work ps' ann A st (agreed.Refused m) = (a : Arity) (p : ℕ) (k : Prog a) → Stops (annotated p (ctxOf l ps work (st .context)) (saying l ps ann) (reads l ps A) k) st m p
 
 -- A FUNCTION OPENED, after its serial i was made: k goes on from the rule's number, the parameter's type and the body's proposition
-unfoldable pub opening : {n : Arity} → (p i : ℕ) → Ty → (ℕ → Ty → Prop → Prog n) → Prog n
-opening p i E k = on-link imp E (λ A B. k 5 (prop A) B) (on-quant all E (λ y D B. make (size B) p (k 11 (datatype D) (put i B))) (refuse 11 p))
-
 pub record OpenedTo (l ps ps' : List ℕ) (E : Sort) (i : ℕ) (st : State) (rule : ℕ) (A : Sort) (b : ℕ) (st' : State) : Type 0 where
   pub parameter : Ty
   pub body : Prop
@@ -117,9 +115,6 @@ OpenedAs l ps ps' E i st (opened.Body rule A b st') = OpenedTo l ps ps' E i st r
 OpenedAs l ps ps' E i st (opened.Refused m) = (a : Arity) (p : ℕ) (k : ℕ → Ty → Prop → Prog a) → Stops (opening p i (reads l ps E) k) st m p
 
 -- AN OBJECT, which must be an Ident (else refusal n) of a known name (else m): k goes on from its serial
-unfoldable pub objected : {a : Arity} → (n m p : ℕ) → Ctx → (ℕ → Prog (more a)) → Prog (more a)
-objected n m p Γ k = name-of n p λ y. look-up m p Γ y λ e. k (e .serial)
-
 abbrev pub ObjectAs : (l ps work : List ℕ) → (t : ℕ) → State → Object → Type 0
 ObjectAs l ps work t st (object.Known s) =
     (a : Arity) (n m : ℕ) (k : ℕ → Prog (more a)) → GoesAt (ident-name (termAt l t)) (objected n m t (ctxOf l ps work (st .context)) k) st (k (s .0)) st
@@ -130,9 +125,6 @@ ObjectAs l ps work t st object.Unknown =
 
 -- A LET OPENED at a head of type H: k goes on from the two serials, the datatype and the Exists' body with the first serial put in; else refusal n
 -- at the head
-unfoldable pub let-opening : {a : Arity} → (n p head : ℕ) → Ty → (ℕ → ℕ → ℕ → Prop → Prog a) → Prog a
-let-opening n p head H k = on-quant ex H (λ z D B. serial λ i. serial λ j. make (size B) p (k i j D (put i B))) (refuse n head)
-
 pub record LetEntered (l ps work ps' work' : List ℕ) (x y : ℕ) (H : Sort) (n p head : ℕ) (st st' : State) : Type 0 where
   pub datatype : ℕ
   pub body : Prop
@@ -143,6 +135,7 @@ pub record LetEntered (l ps work ps' work' : List ℕ) (x y : ℕ) (H : Sort) (n
   pub same : Same (countOf l st) ps ps'
   pub long : length ps' ≡ length ps
   pub kept : SameEntries (st .context) work work'
+  pub picture : SamePicture work work'
   pub work-long : length work' ≡ length work
   pub entries : Entries work (st .context) (countOf l st) → Entries work' (st' .context) (countOf l st')
   pub context : ctxOf l ps' work' (st' .context) ≡ entry y (st .serials + 1) (prop body) ∷ entry x (st .serials) (Ty.datatype datatype) ∷ ctxOf l ps' work (st .context)
@@ -154,9 +147,6 @@ EnteredAs l ps work ps' work' x y H n p head st (entered.Refused m q) =
     (a : Arity) (k : ℕ → ℕ → ℕ → Prop → Prog a) → Stops (let-opening n p head (reads l ps H) k) st m (q .0)
 
 -- A LET CLOSED: no datatype (else refusal n), and the witness i does not stay in the type (else m)
-unfoldable pub closing : {a : Arity} → (n m p i : ℕ) → Ty → Prog a → Prog a
-closing n m p i A k = on-prop A (λ P. cond (holds i P) (refuse m p) k) (refuse n p)
-
 abbrev pub ClosedAs : (l ps : List ℕ) → (n m i : ℕ) → Sort → State → Closed → Type 0
 ClosedAs l ps n m i T st closed.Shut = (a : Arity) (p : ℕ) (k : Prog a) → Goes (closing n m p i (reads l ps T) k) st k st
 ClosedAs l ps n m i T st (closed.Refused o) = (a : Arity) (p : ℕ) (k : Prog a) → Stops (closing n m p i (reads l ps T) k) st o p

@@ -6,7 +6,8 @@ ghost use lib.ListN.{length};
 ghost use Rattle.rules.specs.State.{limit};
 ghost use Rattle.layout.specs.File.{terms, termRecord};
 ghost use Rattle.prop.specs.Room.{TypeIn};
-ghost use Rattle.marking.specs.Rooms.{countOf, Loaded, Table, rooms};
+ghost use Rattle.context.specs.Context.{«most-entries»};
+ghost use Rattle.marking.specs.Rooms.{countOf, Loaded, Table, rooms, «run-room»};
 ghost use Rattle.marking.specs.Contract.{Ready, CheckMeets, SynthMeets};
 use super::head::is_truth;
 use super::node::IDENT;
@@ -17,6 +18,7 @@ use super::node::node;
 use super::node::put_goal;
 use super::node::put_node;
 use super::open::grown;
+use super::picture::picture;
 use super::state::Checked;
 use super::state::State;
 use super::state::Synthesized;
@@ -61,11 +63,12 @@ pub fn chk_unit(
     }
 }
 
-// Sorry, held to a type: a leaf and a goal.
+// Sorry, held to a type: a leaf and a goal, and the goal's picture if it is asked for.
 pub fn chk_sorry(
     file: &[u8],
     tree: &mut [u8],
     goals: &mut [u8],
+    work: &mut [u8],
     k: Term,
     wanted: Type,
     st: State,
@@ -73,8 +76,9 @@ pub fn chk_sorry(
     requires { ⌜ TypeIn (countOf (now file) st) wanted ⌝ }
     requires { ⌜ (16 * (st .records) + 16 ≤ length (now tree)) × (st .records < 65535) ⌝ }
     requires { ⌜ (8 * (st .goals) + 8 ≤ length (now goals)) × (st .goals < 65535) ⌝ }
+    requires { ⌜ («run-room» ≤ length (now work)) × (st .context ≤ «most-entries») ⌝ }
     requires { ⌜ termRecord (now file) (k .0) .kind ≡ 13 ⌝ }
-    ensures { λ r. ⌜ ((ps work : List ℕ) → Ready (now (file .entry)) (rooms (now (tree .entry)) (now (goals .entry)) ps work) (k .0) st → CheckMeets (now (file .entry)) (rooms (now (tree .entry)) (now (goals .entry)) ps work) (rooms (now (tree .exit)) (now (goals .exit)) ps work) (k .0) wanted st r) ⌝ }
+    ensures { λ r. ⌜ ((ps : List ℕ) → Ready (now (file .entry)) (rooms (now (tree .entry)) (now (goals .entry)) ps (now (work .entry))) (k .0) st → CheckMeets (now (file .entry)) (rooms (now (tree .entry)) (now (goals .entry)) ps (now (work .entry))) (rooms (now (tree .exit)) (now (goals .exit)) ps (now (work .exit))) (k .0) wanted st r) ⌝ }
 {
     put_node(
         tree,
@@ -82,6 +86,7 @@ pub fn chk_sorry(
         node(SORRY, k, wanted, Serial::NONE, Serial::NONE, 0),
     );
     put_goal(goals, st.goals, goal_of(k, wanted, st.context));
+    picture(work, wanted, st);
     Checked::Fits(State {
         records: st.records + 1,
         goals: st.goals + 1,

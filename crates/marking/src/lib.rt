@@ -5,6 +5,7 @@ pub mod head;
 pub mod leaf;
 pub mod node;
 pub mod open;
+pub mod picture;
 pub mod shift;
 pub mod state;
 pub mod typing;

@@ -13,8 +13,8 @@ use Rattle.rules.specs.Context.{Entry, Ctx, find, resolve}
 use Rattle.rules.specs.State.{St, limit, next, spend, room}
 use Rattle.rules.specs.Term.{Leaf, ident, unit, Single, fst, snd, left, right, abort, fun, ascribe, Double, pair, app, let-in, Triple, case, Term, leaf, single, double, triple, sorry, place, nodes}
 use Rattle.rules.specs.Tree.{Node, Trees, end, gap, node, _⊕_, stack, goals, records, holes, width}
-use Rattle.rules.specs.Step.{Want, synth, check, Out, refused, ok, then, Answer, Steps, Run, Arity, done, more, Prog, conclude, refuse, serial, make, name-of, ask, Kids, Step, with-kid, named, obey, finish, perform, on-link, on-quant, on-prop, on-found, on-type, look-up, resolved, against, expecting}
-use Rattle.rules.specs.Rules.{one, two, by, ident-synth, ident-step, project-synth, project-step, app-synth, app-step, pair-step, annotated, fun-body, abstracted, fun-synth, fun-step, let-close, let-step, inject-step, case-step, abort-step, unit-step, ascribe-step, leaf-step, single-step, double-step, triple-step, sorry-run, run}
+use Rattle.rules.specs.Step.{Want, synth, check, Out, refused, ok, then, Answer, Steps, Run, Arity, done, more, Prog, conclude, refuse, serial, make, name-of, ask, Kids, Step, with-kid, named, obey, finish, perform, on-link, on-quant, on-prop, on-found, on-type, look-up, objected, resolved, against, expecting}
+use Rattle.rules.specs.Rules.{one, two, by, ident-synth, ident-step, project-synth, project-step, applying, app-synth, app-step, pair-step, annotated, fun-body, abstracted, fun-synth, opening, fun-step, closing, let-close, let-opening, let-step, inject-step, case-step, abort-step, unit-step, ascribe-step, leaf-step, single-step, double-step, triple-step, sorry-run, run}
 
 -- COUNTS of trees side by side
 pub records-beside : (ts us : Trees) → records (ts ⊕ us) ≡ records ts + records us
@@ -154,7 +154,7 @@ module _ (p : ℕ) where
     project-synthesis b = search (thrift, h) depth 9
 
     app-synthesis : (q r : ℕ) → Thrifty P two 0 (app-synth p q r Γ)
-    unfolding app-synth by
+    unfolding app-synth applying objected by
     app-synthesis q r = search (thrift, h) depth 15
 
   ident-modest : (x : ℕ) → Modest (ident-step p x)
@@ -173,7 +173,7 @@ module _ (p : ℕ) where
   app-modest q r (check A) Γ = expecting-thrifty two p A (app-synthesis (λ n. tt) Γ q r)
 
   pair-modest : (q : ℕ) → Modest (pair-step p q)
-  unfolding pair-step by
+  unfolding pair-step objected by
   pair-modest q synth Γ = search thrift depth 15
   pair-modest q (check A) Γ = search thrift depth 15
 
@@ -183,14 +183,14 @@ module _ (p : ℕ) where
   abstracted-thrifty x i (datatype D) B = search thrift
 
   fun-modest : (q x : ℕ) (ann : Option Ty) → Modest (fun-step p q x ann)
-  unfolding fun-step fun-synth fun-body annotated by
+  unfolding fun-step opening fun-synth fun-body annotated by
   fun-modest q x none synth Γ = search thrift depth 15
   fun-modest q x (some N) synth Γ = search (thrift, abstracted-thrifty) depth 15
   fun-modest q x none (check A) Γ = search thrift depth 15
   fun-modest q x (some N) (check A) Γ = search thrift depth 15
 
   let-modest : (q r x y : ℕ) → Modest (let-step p q r x y)
-  unfolding let-step let-close by
+  unfolding let-step let-opening let-close closing by
   let-modest q r x y w Γ = search thrift depth 15
 
   inject-modest : (b : Bool) → Modest (inject-step p b)

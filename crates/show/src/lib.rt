@@ -1,12 +1,12 @@
 // What programs print of the answers, and how they read tables: no logic.
+ghost use mathlib.Core.Path.{_≡_};
 ghost use Prim.Native.Nat.{_<_};
-use libc::STDIN_FILENO;
 use libc::STDOUT_FILENO;
 use table::Verdict;
 
-// Longer than any table that passes. Of a longer file a program reads so much: its header is there, and no count goes with such a
-// length, so tests 2 and 3 answer the same.
-pub const LONGEST: usize = 65536;
+pub mod input;
+pub mod proposition;
+pub mod tree;
 
 pub fn text(bytes: &[u8]) {
     io::write_all(STDOUT_FILENO, bytes);
@@ -16,32 +16,31 @@ pub fn number(n: u64) {
     io::print_decimal(STDOUT_FILENO, n);
 }
 
-// `passes`, or `refused` with the number and the place.
+// A number after a space.
+pub fn spaced(n: u16) {
+    text(b" ");
+    number(n as u64);
+}
+
+// A record's number, to find it in its room by.
+pub fn index(n: u16) -> usize
+    ensures { λ r. ⌜ (r ≡ n) × (r < 65536) ⌝ }
+{
+    n as usize
+}
+
+// `refused` with the number and the place.
+pub fn refused(n: u8, place: u16) {
+    text(b"refused");
+    spaced(n as u16);
+    spaced(place);
+    text(b"\n");
+}
+
+// `passes`, or the refusal.
 pub fn answer(v: Verdict) {
     match v {
         Verdict::Passes => text(b"passes\n"),
-        Verdict::Refused(n, place) => {
-            text(b"refused ");
-            number(n as u64);
-            text(b" ");
-            number(place as u64);
-            text(b"\n");
-        }
+        Verdict::Refused(n, place) => refused(n, place),
     }
-}
-
-fn wide(b: u8) -> usize
-    ensures { λ r. ⌜ r < 256 ⌝ }
-{
-    b as usize
-}
-
-// The next 32-bit number of standard input, low byte first; 0 where the input ends.
-pub fn next_word() -> usize {
-    let mut four = [0u8; 4];
-    let got = io::read_full(STDIN_FILENO, &mut four);
-    if got < 4 {
-        return 0;
-    }
-    wide(four[0]) + 256 * wide(four[1]) + 65536 * wide(four[2]) + 16777216 * wide(four[3])
 }

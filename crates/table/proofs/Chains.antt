@@ -34,7 +34,7 @@ use Rattle.table.specs.Tests.{open-goal, test-room}
 use Rattle.table.specs.Passing.{Counted, Formed, Linked, WellLinked}
 use Rattle.table.proofs.Sums.{hit-here, hit-later, hit-either, hit-not}
 use Rattle.layout.proofs.Strange.{Nots, past}
-use Rattle.table.proofs.Links.{child-below, parent-above, expected-in}
+use Rattle.table.proofs.Links.{directed, child-below, parent-above, expected-in}
 use Rattle.table.proofs.Reading.{nearest-child, nearest-root, binders-none, binders-at}
 use Rattle.table.proofs.Sizes.{closed-none, closed-one, closed-two}
 
@@ -173,8 +173,8 @@ module _ {l : List ℕ} (h : WellLinked l) where
   descent-start p w v e empty = record { size = refl; within = omega arith; right = λ m k above. at m k above (parent l m) refl }
     where
       at : (m : ℕ) → m < props l → ((j : ℕ) → parent l m ≡ At j → p ≤ j) → (u : Guilty) → parent l m ≡ u → wordAt v (2 * m) ≡ marked (nearest l m)
-      at m k above (At j) d = absurd (omega (arith, above j d, parent-above (h .linked) j m d .0))
-      at m k above Nobody d = empty .each m (omega arith) ∙ ap marked (sym (nearest-root (h .linked) m d))
+      at m k above (At j) d = absurd (omega (arith, above j d, parent-above (directed (h .linked)) j m d .0))
+      at m k above Nobody d = empty .each m (omega arith) ∙ ap marked (sym (nearest-root (directed (h .linked)) m d))
 
   module _ (n : ℕ) (old w : List ℕ) (d : Descent l n old w) where
     pub descent-end : n ≤ 0 → Above l w
@@ -187,7 +187,7 @@ module _ {l : List ℕ} (h : WellLinked l) where
       pub descent-fits : (p : ℕ) (room : List ℕ) → Counted l → Vacant p room old → test-room ≤ length room → ChildrenFit r (n - 1) w
       descent-fits p room c empty long =
           subst⁻¹ (λ r. ChildrenFit r (n - 1) w) e
-          record { self = omega arith; child = λ m x. omega (arith, child-below (h .linked) (n - 1) m (omega arith) x) }
+          record { self = omega arith; child = λ m x. omega (arith, child-below (directed (h .linked)) (n - 1) m (omega arith) x) }
 
       pub descent-step : (v : List ℕ) → ChildrenNoted r (n - 1) w v → Descent l (n - 1) old v
       descent-step v noted =
@@ -205,10 +205,10 @@ module _ {l : List ℕ} (h : WellLinked l) where
 
           -- its own parent has a larger number
           own : wordAt w (2 * (n - 1)) ≡ marked (nearest l (n - 1))
-          own = d .right (n - 1) here (λ j q. omega (arith, parent-above (h .linked) j (n - 1) q .2))
+          own = d .right (n - 1) here (λ j q. omega (arith, parent-above (directed (h .linked)) j (n - 1) q .2))
 
           past : (m j : ℕ) → parent l m ≡ At j → 0 ≡ hits m children → (n - 1 ≡ j) ⊎ (n - 1 < j) → n ≤ j
-          past m j q z (inl x) = absurd (omega (arith, parent-above (h .linked) j m q .1, ap (λ i. hits m (prop-links (propRecord l i))) x))
+          past m j q z (inl x) = absurd (omega (arith, parent-above (directed (h .linked)) j m q .1, ap (λ i. hits m (prop-links (propRecord l i))) x))
           past m j q z (inr x) = omega arith
 
           at : (m : ℕ) → m < props l → ((j : ℕ) → parent l m ≡ At j → n - 1 ≤ j) → (0 ≡ hits m children) ⊎ (0 < hits m children) → wordAt v (2 * m) ≡ marked (nearest l m)
@@ -235,10 +235,10 @@ module _ {l : List ℕ} (c : Counted l) (h : WellLinked l) (w : List ℕ) (above
       at : (g : Guilty) → nearest l n ≡ g → (chain l q ≡ binders l n) × ((q ≡ none → ⊥) → (n < q) × (q < props l))
       at Nobody d =
           let z : q ≡ none = e ∙ above n k ∙ ap marked d in
-          (rw (eq-eqb q none z) (sym (binders-none (h .linked) n d)), λ x. absurd (x z))
+          (rw (eq-eqb q none z) (sym (binders-none (directed (h .linked)) n d)), λ x. absurd (x z))
       at (At m) d =
           let z : q ≡ m = e ∙ above n k ∙ ap marked d in
-          let b = binders-at (h .linked) n m d in
+          let b = binders-at (directed (h .linked)) n m d in
           (rw (ne-eqb q none (omega (arith, c .propositions))) (ap (λ i. propRecord l i .a ∷ binders l i) z ∙ sym (b .2)), λ x. (omega arith, omega arith))
 
   module _ (n start : ℕ) (inside : n < props l) (first : start ≡ wordAt w (2 * n)) where
@@ -323,7 +323,7 @@ module _ {l : List ℕ} (h : WellLinked l) (n : ℕ) (inside : n < props l) (r :
   children-are = ap (λ (s : PropShape). s .children) shape ∙ ap (λ (r : Record). prop-shape (prop-kind (r .kind)) .children) e
 
   child-in : (i : ℕ) → 0 < hits i (prop-children (s .children) r) → i < n
-  child-in i x = child-below (h .linked) n i inside (subst (λ r. 0 < hits i (prop-links r)) e (linked-so r s shape i x))
+  child-in i x = child-below (directed (h .linked)) n i inside (subst (λ r. 0 < hits i (prop-links r)) e (linked-so r s shape i x))
 
   pub shut-none : Formed l → s .children ≡ 0 → (b : Bool) → b ≡ closed-params l n r → b ≡ closed (propAt l n)
   shut-none f z b q = q ∙ ap (closed-params l n) e ∙ sym (closed-none (h .linked) n inside f (sym children-are ∙ z))

@@ -18,7 +18,7 @@ use Rattle.table.specs.Links.{term-links, hits, sum}
 use Rattle.table.specs.Reading.{termAt}
 use Rattle.table.specs.Passing.{Formed, Linked}
 use Rattle.table.proofs.Sums.{sum-same, sum-add, sum-zero, hit-here, hit-later}
-use Rattle.table.proofs.Links.{term-child, term-once, root-never}
+use Rattle.table.proofs.Links.{directed, term-child, term-once, root-never}
 use Rattle.table.proofs.Reading.{is-gap, View, view-leaf, view-single, view-double, view-triple, view-gap, term-view}
 
 -- a sum over a list
@@ -136,17 +136,17 @@ module _ {p : Purpose} {l : List ℕ} (f : Formed l) (h : Linked p l) (pos : 0 <
   links t = term-links (termRecord l t)
 
   root-count : (μ w : ℕ → ℕ) → ((t : ℕ) → t < terms l → μ t ≡ w t + over μ (links t)) → μ 0 ≡ sum w (terms l)
-  root-count μ w step = count-root links μ w (terms l) pos step (λ t c k x. term-child h t c k x .1) (root-never h) (term-once h)
+  root-count μ w step = count-root links μ w (terms l) pos step (λ t c k x. term-child (directed h) t c k x .1) (root-never (directed h)) (term-once h)
 
   pub nodes-root : nodes (termAt l 0) ≡ terms l
-  nodes-root = root-count (λ t. nodes (termAt l t)) (λ t. 1) (λ t k. nodes-view (term-view f h t k)) ∙ ones (terms l)
+  nodes-root = root-count (λ t. nodes (termAt l t)) (λ t. 1) (λ t k. nodes-view (term-view f (directed h) t k)) ∙ ones (terms l)
 
   abbrev sorry-at : ℕ → Bool
   sorry-at q = is-gap (kind-of (termRecord l q .kind))
 
   gaps-sum : (q : ℕ) → gaps q (termAt l 0) ≡ sum (λ t. bit (sorry-at t) * bit (eqb q t)) (terms l)
   gaps-sum q =
-      root-count (λ t. gaps q (termAt l t)) (λ t. bit (sorry-at t) * bit (eqb t q)) (λ t k. gaps-view q (term-view f h t k))
+      root-count (λ t. gaps q (termAt l t)) (λ t. bit (sorry-at t) * bit (eqb t q)) (λ t k. gaps-view q (term-view f (directed h) t k))
       ∙ sum-same _ _ (terms l) (λ t k. ap (λ b. bit (sorry-at t) * bit b) (eqb-swap t q))
 
   -- a Sorry record is one gap

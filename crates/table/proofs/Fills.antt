@@ -53,12 +53,12 @@ sorry-or-not TypeAscription = inr (λ e. let z : _≡_ {A = ℕ} 0 1 = cc in ome
 sorry-or-not Sorry = inl refl
 sorry-or-not Strange = inr (λ e. let z : _≡_ {A = ℕ} 0 1 = cc in omega arith)
 
--- a number that is some gap's is one gap's
-one-gap : (l : List ℕ) (q : ℕ) → Good Check l → 1 ≤ gaps q (termAt l 0) → gaps q (termAt l 0) ≡ 1
-one-gap l q good some = at (ltb q (terms l)) refl (sorry-or-not (kind-of (termRecord l q .kind)))
+-- a number that is some gap's is a Sorry record's, and one gap's
+sorry-of : (l : List ℕ) (q : ℕ) → Good Check l → 1 ≤ gaps q (termAt l 0) → (q < terms l) × (kind-of (termRecord l q .kind) ≡ Sorry)
+sorry-of l q good some = at (ltb q (terms l)) refl (sorry-or-not (kind-of (termRecord l q .kind)))
   where
-    at : (b : Bool) → ltb q (terms l) ≡ b → Either (kind-of (termRecord l q .kind)) → gaps q (termAt l 0) ≡ 1
-    at true e (inl k) = let r = good-passed good in gaps-one (r .formed) (r .linked) (r .counted .some) q (ltb-true q (terms l) e) k
+    at : (b : Bool) → ltb q (terms l) ≡ b → Either (kind-of (termRecord l q .kind)) → (q < terms l) × (kind-of (termRecord l q .kind) ≡ Sorry)
+    at true e (inl k) = (ltb-true q (terms l) e, k)
     at true e (inr k) =
         let r = good-passed good in
         absurd (omega (arith, gaps-none (r .formed) (r .linked) (r .counted .some) q (λ _ s. k s)))
@@ -67,11 +67,26 @@ one-gap l q good some = at (ltb q (terms l)) refl (sorry-or-not (kind-of (termRe
         let past : terms l ≤ q = ltb-false q (terms l) e in
         absurd (omega (arith, gaps-none (r .formed) (r .linked) (r .counted .some) q (λ h _. omega arith)))
 
+one-gap : (l : List ℕ) (q : ℕ) → Good Check l → 1 ≤ gaps q (termAt l 0) → gaps q (termAt l 0) ≡ 1
+one-gap l q good some =
+    let r = good-passed good in
+    let s = sorry-of l q good some in
+    gaps-one (r .formed) (r .linked) (r .counted .some) q (s .0) (s .1)
+
+-- A GOAL of a passing table's run stands at a gap of its term
+goal-seen : (l : List ℕ) (a : Answer) (st : St) → run (termAt l 0) (check (prop (propAt l (expected l)))) [] start ≡ ok a st → (g : Gap) → At g (a .tree) → 1 ≤ gaps (g .term) (termAt l 0)
+goal-seen l a st accepted g p = omega (arith, counted-there p, rw accepted at (tally-run (g .term) (termAt l 0) (check (prop (propAt l (expected l)))) [] start))
+
+-- at a Sorry record, then
+pub goal-sorry : (l : List ℕ) → Good Check l → (a : Answer) (st : St) → run (termAt l 0) (check (prop (propAt l (expected l)))) [] start ≡ ok a st → (g : Gap) → At g (a .tree)
+    → (g .term < terms l) × (kind-of (termRecord l (g .term) .kind) ≡ Sorry)
+goal-sorry l good a st accepted g p = sorry-of l (g .term) good (goal-seen l a st accepted g p)
+
 -- DEMAND 3 for the term of a passing table, checked from the empty context: see `Demand-3` of the rules
 pub table-fills : (l : List ℕ) → Good Check l → (a : Answer) (st : St) → run (termAt l 0) (check (prop (propAt l (expected l)))) [] start ≡ ok a st
     → (u : Term) (g : Gap) (p : At g (a .tree)) → place u ≡ g .term
     → Follows (λ x. RunsAfter (g .term) x (termAt l 0)) g (filled g a p) st (run (plug (g .term) u (termAt l 0)) (check (prop (propAt l (expected l)))) [] start) (at-goal u g)
 unfolding older-ctx
 table-fills l good a st accepted u g p root =
-    let seen : 1 ≤ gaps (g .term) (termAt l 0) = omega (arith, counted-there p, rw accepted at (tally-run (g .term) (termAt l 0) (check (prop (propAt l (expected l)))) [] start)) in
-    demand-3 (termAt l 0) u (prop (propAt l (expected l))) [] start a st accepted (omega arith) tt (prop-old l (expected l)) g p (one-gap l (g .term) good seen) root
+    demand-3 (termAt l 0) u (prop (propAt l (expected l))) [] start a st accepted (omega arith) tt (prop-old l (expected l)) g p
+    (one-gap l (g .term) good (goal-seen l a st accepted g p)) root

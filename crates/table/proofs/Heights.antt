@@ -25,7 +25,7 @@ use Rattle.table.specs.Reading.{propAt}
 use Rattle.table.specs.Size.{height, depth, too-high, too-deep}
 use Rattle.table.specs.Sizing.{height-over, heightOf, ChildrenHigh, Within, Deepened}
 use Rattle.table.proofs.Sums.{hit-here, hit-later, hit-not, hit-either}
-use Rattle.table.proofs.Links.{child-below, term-child, holder-child, holder-above, holder-some}
+use Rattle.table.proofs.Links.{directed, child-below, term-child, holder-child, holder-above, holder-some}
 use Rattle.table.proofs.Namings.{term-hits}
 use Rattle.table.proofs.Sizes.{height-none, height-one, height-two, depth-root, depth-child}
 
@@ -96,11 +96,11 @@ Heights l w n = (j : ℕ) → j < n → (getD w j 0 ≡ height (propAt l j)) × 
 module _ (l w : List ℕ) (n : ℕ) (r : Record) (e : r ≡ propRecord l n) (k : n < props l) (g : WellLinked l) (h : Heights l w n) where
   pub children-high : n ≤ length w → ChildrenHigh r w
   children-high f m x =
-      let b = child-below (g .linked) n m k (subst (λ (r : Record). 0 < hits m (prop-links r)) e x) in
+      let b = child-below (directed (g .linked)) n m k (subst (λ (r : Record). 0 < hits m (prop-links r)) e x) in
       (omega arith, omega (arith, h m b .1))
 
   child-height : (m : ℕ) → 0 < hits m (prop-links (propRecord l n)) → getD w m 0 ≡ height (propAt l m)
-  child-height m x = h m (child-below (g .linked) n m k x) .0
+  child-height m x = h m (child-below (directed (g .linked)) n m k x) .0
 
   by-children : (c : ℕ) → prop-shape (prop-kind (propRecord l n .kind)) .children ≡ c → heightOf (propRecord l n) w ≡ height (propAt l n)
   by-children zero q = over-none _ _ w q ∙ sym (height-none (g .linked) n k q)
@@ -202,11 +202,11 @@ module _ (l w : List ℕ) (t : ℕ) (g : WellLinked l) (k : t < terms l) where
     where
       at : (0 ≡ t) ⊎ (0 < t) → getD w t 0 ≡ depth l t
       at (inl e) = subst (λ (i : ℕ). getD w i 0 ≡ depth l i) e (h .root)
-      at (inr z) = let o = holder-some (g .linked) t z k in let b = holder-above (g .linked) (o .0) t (o .1) in h .child (o .0) t (b .2) (b .1)
+      at (inr z) = let o = holder-some (g .linked) t z k in let b = holder-above (directed (g .linked)) (o .0) t (o .1) in h .child (o .0) t (b .2) (b .1)
 
   module _ (r : TermRecord) (e : r ≡ termRecord l t) where
     pub subterms-within : terms l ≤ length w → Within (λ c. hits c (term-links r)) w
-    subterms-within f c x = omega (arith, term-child (g .linked) t c k (subst (λ (r : TermRecord). 0 < hits c (term-links r)) e x) .1)
+    subterms-within f c x = omega (arith, term-child (directed (g .linked)) t c k (subst (λ (r : TermRecord). 0 < hits c (term-links r)) e x) .1)
 
     -- a term has one holder
     unnamed : (s c : ℕ) → s < t → 0 < hits c (term-links (termRecord l s)) → 0 < hits c (term-links (termRecord l t)) → ⊥
@@ -217,7 +217,7 @@ module _ (l w : List ℕ) (t : ℕ) (g : WellLinked l) (k : t < terms l) where
         omega arith
 
     pub depths-next : (v : List ℕ) (d : ℕ) → Depths l w t → d ≡ depth l t → Deepened (λ c. hits c (term-links r)) (d + 1) w v → Depths l v (t + 1)
-    depths-next v d h q n = record { root = m .others 0 (none 0 (λ y. omega (arith, term-child (g .linked) t 0 k y .0))) ∙ h .root; child = λ s c b x. at s c x (eq-or-lt-of-le {n = s} {m = t} (omega arith)) }
+    depths-next v d h q n = record { root = m .others 0 (none 0 (λ y. omega (arith, term-child (directed (g .linked)) t 0 k y .0))) ∙ h .root; child = λ s c b x. at s c x (eq-or-lt-of-le {n = s} {m = t} (omega arith)) }
       where
         m : Deepened (λ c. hits c (term-links (termRecord l t))) (d + 1) w v
         m = subst (λ (r : TermRecord). Deepened (λ c. hits c (term-links r)) (d + 1) w v) e n

@@ -17,7 +17,7 @@ use Rattle.layout.specs.File.{props, terms, expected, propRecord, termRecord}
 use Rattle.table.specs.Links.{prop-links, term-links, annotation, prop-links-ok, term-links-ok, all-links, hits, sum, prop-named, term-named, badly-linked-prop, badly-linked-term}
 use Rattle.table.specs.Reading.{first, parent}
 use Rattle.table.specs.Size.{holder}
-use Rattle.table.specs.Passing.{Linked}
+use Rattle.table.specs.Passing.{Linked, Directed}
 use Rattle.table.proofs.Firsts.{first-at, first-clear, first-nobody, first-only}
 use Rattle.table.proofs.Sums.{sum-one, sum-two, sum-zero, sum-some, hit-here, hit-ok}
 
@@ -71,12 +71,17 @@ module _ {p : Purpose} {l : List ℕ} (h : Linked p l) where
   unfolding badly-linked-term
   term-ok t k = both (term-links-ok l t) (eqb t 0 || eqb (term-named l t) 1) (h .term t k)
 
+  pub directed : Directed l
+  directed = record { prop = λ n k. prop-ok n k .0; term = λ t k. term-ok t k .0 }
+
+-- THE RIGHT WAY
+module _ {l : List ℕ} (d : Directed l) where
   term-in : (t : ℕ) → t < terms l → (all-links (λ m. ltb t m && ltb m (terms l)) (term-links (termRecord l t)) ≡ true) × (all-links (λ m. ltb m (props l)) (annotation (termRecord l t)) ≡ true)
-  term-in t k = and-eq-true-iff (all-links (λ m. ltb t m && ltb m (terms l)) (term-links (termRecord l t))) (all-links (λ m. ltb m (props l)) (annotation (termRecord l t))) .0 (term-ok t k .0)
+  term-in t k = and-eq-true-iff (all-links (λ m. ltb t m && ltb m (terms l)) (term-links (termRecord l t))) (all-links (λ m. ltb m (props l)) (annotation (termRecord l t))) .0 (d .term t k)
 
   -- children of propositions have smaller numbers
   pub child-below : (n m : ℕ) → n < props l → 0 < hits m (prop-links (propRecord l n)) → m < n
-  child-below n m k x = ltb-true m n (hit-ok (λ m. ltb m n) m (prop-links (propRecord l n)) (prop-ok n k .0) x)
+  child-below n m k x = ltb-true m n (hit-ok (λ m. ltb m n) m (prop-links (propRecord l n)) (d .prop n k) x)
 
   -- children of terms larger ones
   pub term-child : (t m : ℕ) → t < terms l → 0 < hits m (term-links (termRecord l t)) → (t < m) × (m < terms l)
@@ -87,13 +92,6 @@ module _ {p : Purpose} {l : List ℕ} (h : Linked p l) where
   pub annotation-in : (t m : ℕ) → t < terms l → 0 < hits m (annotation (termRecord l t)) → m < props l
   annotation-in t m k x = ltb-true m (props l) (hit-ok (λ m. ltb m (props l)) m (annotation (termRecord l t)) (term-in t k .1) x)
 
-  -- named once
-  pub prop-once : (n : ℕ) → n < props l → prop-named p l n ≡ 1
-  prop-once n k = eqb-true (prop-named p l n) 1 (prop-ok n k .1)
-
-  pub term-once : (t : ℕ) → 0 < t → t < terms l → term-named l t ≡ 1
-  term-once t z k = eqb-true (term-named l t) 1 (rw (ne-eqb t 0 (omega arith)) at (term-ok t k .1))
-
   pub root-never : term-named l 0 ≡ 0
   root-never = sum-zero (λ s. hits 0 (term-links (termRecord l s))) (terms l) (λ s k. none s k (eq-or-lt-of-le (omega arith)))
     where
@@ -101,34 +99,42 @@ module _ {p : Purpose} {l : List ℕ} (h : Linked p l) where
       none s k (inl e) = sym e
       none s k (inr x) = absurd (omega (arith, term-child s 0 k x .0))
 
+  pub parent-above : (n m : ℕ) → parent l m ≡ At n → (n < props l) × (0 < hits m (prop-links (propRecord l n))) × (m < n)
+  unfolding parent
+  parent-above n m e = let r = owner-at (λ i. prop-links (propRecord l i)) (props l) m n e in (r .0, r .1, child-below n m (r .0) (r .1))
+
+  pub holder-above : (t c : ℕ) → holder l c ≡ At t → (t < terms l) × (0 < hits c (term-links (termRecord l t))) × (t < c)
+  unfolding holder
+  holder-above t c e = let r = owner-at (λ i. term-links (termRecord l i)) (terms l) c t e in (r .0, r .1, term-child t c (r .0) (r .1) .0)
+
+-- NAMED ONCE
+module _ {p : Purpose} {l : List ℕ} (h : Linked p l) where
+  pub prop-once : (n : ℕ) → n < props l → prop-named p l n ≡ 1
+  prop-once n k = eqb-true (prop-named p l n) 1 (prop-ok h n k .1)
+
+  pub term-once : (t : ℕ) → 0 < t → t < terms l → term-named l t ≡ 1
+  term-once t z k = eqb-true (term-named l t) 1 (rw (ne-eqb t 0 (omega arith)) at (term-ok h t k .1))
+
   -- BY WHOM: a child by its parent; the expected proposition and an annotation by no proposition
   pub parent-child : (n m : ℕ) → n < props l → 0 < hits m (prop-links (propRecord l n)) → parent l m ≡ At n
   unfolding parent
-  parent-child n m k x = owner-only (λ i. prop-links (propRecord l i)) (props l) m (omega (arith, prop-once m (omega (arith, child-below n m k x)))) n k x
+  parent-child n m k x = owner-only (λ i. prop-links (propRecord l i)) (props l) m (omega (arith, prop-once m (omega (arith, child-below (directed h) n m k x)))) n k x
 
   pub parent-annotation : (t m : ℕ) → t < terms l → 0 < hits m (annotation (termRecord l t)) → parent l m ≡ Nobody
   unfolding parent
   parent-annotation t m k x =
       owner-none (λ i. prop-links (propRecord l i)) (props l) m
-      (omega (arith, prop-once m (annotation-in t m k x), sum-one (λ t. hits m (annotation (termRecord l t))) t (terms l) k))
-
-  pub parent-above : (n m : ℕ) → parent l m ≡ At n → (n < props l) × (0 < hits m (prop-links (propRecord l n))) × (m < n)
-  unfolding parent
-  parent-above n m e = let r = owner-at (λ i. prop-links (propRecord l i)) (props l) m n e in (r .0, r .1, child-below n m (r .0) (r .1))
+      (omega (arith, prop-once m (annotation-in (directed h) t m k x), sum-one (λ t. hits m (annotation (termRecord l t))) t (terms l) k))
 
   pub holder-child : (t c : ℕ) → t < terms l → 0 < hits c (term-links (termRecord l t)) → holder l c ≡ At t
   unfolding holder
   holder-child t c k x =
-      let r = term-child t c k x in
+      let r = term-child (directed h) t c k x in
       owner-only (λ i. term-links (termRecord l i)) (terms l) c (omega (arith, term-once c (omega arith) (r .1))) t k x
 
   pub holder-root : holder l 0 ≡ Nobody
   unfolding holder
-  holder-root = owner-none (λ i. term-links (termRecord l i)) (terms l) 0 root-never
-
-  pub holder-above : (t c : ℕ) → holder l c ≡ At t → (t < terms l) × (0 < hits c (term-links (termRecord l t))) × (t < c)
-  unfolding holder
-  holder-above t c e = let r = owner-at (λ i. term-links (termRecord l i)) (terms l) c t e in (r .0, r .1, term-child t c (r .0) (r .1) .0)
+  holder-root = owner-none (λ i. term-links (termRecord l i)) (terms l) 0 (root-never (directed h))
 
   pub holder-some : (c : ℕ) → 0 < c → c < terms l → (t : ℕ) × (holder l c ≡ At t)
   unfolding holder
@@ -144,17 +150,17 @@ parent-goal {l} h =
     owner-none (λ i. prop-links (propRecord l i)) (props l) (expected l) (omega (arith, prop-once h (expected l) (expected-in h), hit-here (expected l) []))
 
 -- INDUCTION from the children
-module _ {p : Purpose} {l : List ℕ} (h : Linked p l) (F : ℕ → Type 0) where
+module _ {l : List ℕ} (d : Directed l) (F : ℕ → Type 0) where
   pub prop-induction : ((n : ℕ) → n < props l → ((m : ℕ) → 0 < hits m (prop-links (propRecord l n)) → F m) → F n) → (n : ℕ) → n < props l → F n
   prop-induction step n k = go (suc n) n (omega arith) k
     where
       go : (f n : ℕ) → n < f → n < props l → F n
       go zero n a k = absurd (omega arith)
-      go (suc f) n a k = step n k (λ m x. let c = child-below h n m k x in go f m (omega arith) (omega arith))
+      go (suc f) n a k = step n k (λ m x. let c = child-below d n m k x in go f m (omega arith) (omega arith))
 
   pub term-induction : ((t : ℕ) → t < terms l → ((c : ℕ) → 0 < hits c (term-links (termRecord l t)) → F c) → F t) → (t : ℕ) → t < terms l → F t
   term-induction step t k = go (terms l) t (omega arith) k
     where
       go : (f t : ℕ) → terms l ≤ t + f → t < terms l → F t
       go zero t a k = absurd (omega arith)
-      go (suc f) t a k = step t k (λ c x. let r = term-child h t c k x in go f c (omega arith) (r .1))
+      go (suc f) t a k = step t k (λ c x. let r = term-child d t c k x in go f c (omega arith) (r .1))

@@ -36,7 +36,7 @@ use Rattle.table.specs.Tests.{header, counts, formless, badly-linked, ov
 use Rattle.table.specs.Passing.{Counted, Formed, Linked, Sized, Good}
 use Rattle.table.proofs.Firsts.{first-clear, or-nobody}
 use Rattle.table.proofs.Sums.{hit-here, hit-later}
-use Rattle.table.proofs.Links.{prop-induction, term-induction, parent-annotation, annotation-in, expected-in, parent-goal}
+use Rattle.table.proofs.Links.{directed, prop-induction, term-induction, parent-annotation, annotation-in, expected-in, parent-goal}
 use Rattle.table.proofs.Reading.{prop-step, binders-child, binders-root, View, view-leaf, view-single, view-double, view-triple, view-gap, term-view}
 use Rattle.table.proofs.Sizes.{depth-root, depth-child}
 use Rattle.table.proofs.Headers.{counted}
@@ -164,17 +164,17 @@ prop-of-within l n sub strange r h = tt
 
 module _ {p : Purpose} {l : List ℕ} (h : Linked p l) where
   pub prop-within-binders : (n : ℕ) → n < props l → T (each within (length (binders l n)) (propAt l n))
-  prop-within-binders = prop-induction h (λ n. T (each within (length (binders l n)) (propAt l n))) step
+  prop-within-binders = prop-induction (directed h) (λ n. T (each within (length (binders l n)) (propAt l n))) step
     where
       step : (n : ℕ) → n < props l → ((m : ℕ) → 0 < hits m (prop-links (propRecord l n)) → T (each within (length (binders l m)) (propAt l m)))
           → T (each within (length (binders l n)) (propAt l n))
       step n k ih =
-          rw (prop-step h n k)
+          rw (prop-step (directed h) n k)
           (prop-of-within l n (propAt l) (prop-kind (propRecord l n .kind)) (propRecord l n) (λ m x. subst (λ ys. T (each within (length ys) (propAt l m))) (binders-child h n m k x) (ih m x)))
 
   pub prop-scoped : (n : ℕ) → n < props l → parent l n ≡ Nobody → T (scoped (prop (propAt l n)))
   unfolding scoped
-  prop-scoped n k e = subst (λ ys. T (each within (length ys) (propAt l n))) (binders-root h n e) (prop-within-binders n k)
+  prop-scoped n k e = subst (λ ys. T (each within (length ys) (propAt l n))) (binders-root (directed h) n e) (prop-within-binders n k)
 
 -- and so in every annotation
 type-scoped : (l : List ℕ) (tag m : ℕ) (A : Ty) → type-of l tag m ≡ some A → (tag ≡ 1 → T (scoped (prop (propAt l m)))) → T (scoped A)
@@ -208,12 +208,12 @@ module _ {p : Purpose} {l : List ℕ} (f : Formed l) (h : Linked p l) where
   annotated-scoped t k S e =
       type-scoped l (termRecord l t .tag) (termRecord l t .typ) S e λ q.
       let x : 0 < hits (termRecord l t .typ) (annotation (termRecord l t)) = rw q (hit-here (termRecord l t .typ) []) in
-      prop-scoped h (termRecord l t .typ) (annotation-in h t (termRecord l t .typ) k x) (parent-annotation h t (termRecord l t .typ) k x)
+      prop-scoped h (termRecord l t .typ) (annotation-in (directed h) t (termRecord l t .typ) k x) (parent-annotation h t (termRecord l t .typ) k x)
 
   pub annotations-scoped : (t : ℕ) → t < terms l → Annotations (λ A. T (scoped A)) (termAt l t)
   annotations-scoped =
-      term-induction h (λ t. Annotations (λ A. T (scoped A)) (termAt l t)) λ t k ih.
-      annotations-view (λ A. T (scoped A)) (annotated-scoped t k) (term-view f h t k) ih
+      term-induction (directed h) (λ t. Annotations (λ A. T (scoped A)) (termAt l t)) λ t k ih.
+      annotations-view (λ A. T (scoped A)) (annotated-scoped t k) (term-view f (directed h) t k) ih
 
 -- A RUN on a table to check may start, and what it proves without goals holds
 pub table-proper : (l : List ℕ) → Good Check l → Proper (termAt l 0) (check (prop (propAt l (expected l)))) [] start
@@ -254,7 +254,7 @@ deep-view n d view-gap x h = omega arith
 
 pub deep-root : {p : Purpose} {l : List ℕ} → Formed l → Linked p l → Sized l → 0 < terms l → deep (termAt l 0) ≤ most-depth
 deep-root {l = l} f h s pos =
-    omega (arith, term-induction h (λ t. deep (termAt l t) + depth l t ≤ suc most-depth) step 0 pos, depth-root l)
+    omega (arith, term-induction (directed h) (λ t. deep (termAt l t) + depth l t ≤ suc most-depth) step 0 pos, depth-root l)
   where
     step : (t : ℕ) → t < terms l → ((c : ℕ) → 0 < hits c (term-links (termRecord l t)) → deep (termAt l c) + depth l c ≤ suc most-depth) → deep (termAt l t) + depth l t ≤ suc most-depth
-    step t k ih = deep-view most-depth (depth l t) (term-view f h t k) (s .term t k) (λ c x. subst (λ d. deep (termAt l c) + d ≤ suc most-depth) (depth-child h t c k x) (ih c x))
+    step t k ih = deep-view most-depth (depth l t) (term-view f (directed h) t k) (s .term t k) (λ c x. subst (λ d. deep (termAt l c) + d ≤ suc most-depth) (depth-child h t c k x) (ih c x))

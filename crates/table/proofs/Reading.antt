@@ -10,7 +10,7 @@ use lib.Dec.{leb}
 use borrow.Author.Tests.{leb-true, eq-eqb, ne-eqb}
 use Rattle.number.specs.declared.record.Record.{Record}
 use Rattle.rules.specs.Prop.{free, bound, Prop, link, quant, table, Ty, prop, datatype}
-use Rattle.rules.specs.Term.{Leaf, Single, Double, Triple, Term, leaf, single, double, triple, sorry, Annotation}
+use Rattle.rules.specs.Term.{Leaf, Single, Double, Triple, Term, leaf, single, double, triple, sorry, place, Annotation}
 use Rattle.table.specs.declared.Purpose.{Purpose}
 use Rattle.table.specs.declared.Guilty.{Guilty}
 use Rattle.table.specs.declared.Guilty.the-variants.{At, Nobody}
@@ -22,12 +22,12 @@ use Rattle.layout.specs.Form.{prop-shape, in-prop-shape, prop-form, term-shape,
 use Rattle.table.specs.Links.{prop-children, prop-links, term-children, term-links, hits}
 use Rattle.table.specs.Reading.{parent, object, above, binders-within, binders, settled, prop-of, prop-within, propAt, type-of, ascribed, term-of, annotated, term-within, termAt}
 use Rattle.table.specs.Nearest.{nearer, nearest-above, nearest-within, nearest}
-use Rattle.table.specs.Passing.{Formed, Linked}
+use Rattle.table.specs.Passing.{Formed, Linked, Directed}
 use Rattle.table.proofs.Sums.{hit-here, hit-later}
-use Rattle.table.proofs.Links.{child-below, term-child, parent-child, parent-above}
+use Rattle.table.proofs.Links.{directed, child-below, term-child, parent-child, parent-above}
 
 -- PROPOSITIONS. A record's reading asks only for its children's
-prop-of-same : (l : List ℕ) (n : ℕ) (sub sub′ : ℕ → Prop) (K : PropKind) (r : Record) → ((m : ℕ) → 0 < hits m (prop-children (prop-shape K .children) r) → sub m ≡ sub′ m)
+pub prop-of-same : (l : List ℕ) (n : ℕ) (sub sub′ : ℕ → Prop) (K : PropKind) (r : Record) → ((m : ℕ) → 0 < hits m (prop-children (prop-shape K .children) r) → sub m ≡ sub′ m)
     → prop-of l n sub K r ≡ prop-of l n sub′ K r
 unfolding prop-of prop-children prop-shape
 prop-of-same l n sub sub′ (constant b) r e = refl
@@ -36,23 +36,23 @@ prop-of-same l n sub sub′ (quantified q) r e = ap (quant (table n) q (r .a) (r
 prop-of-same l n sub sub′ atomic r e = refl
 prop-of-same l n sub sub′ strange r e = refl
 
-module _ {p : Purpose} {l : List ℕ} (h : Linked p l) where
+module _ {l : List ℕ} (d : Directed l) where
   prop-enough : (f g n : ℕ) → n < f → n < g → n < props l → prop-within f l n ≡ prop-within g l n
   unfolding prop-within
   prop-enough zero g n a b k = absurd (omega arith)
   prop-enough (suc f) zero n a b k = absurd (omega arith)
   prop-enough (suc f) (suc g) n a b k =
       prop-of-same l n (prop-within f l) (prop-within g l) (prop-kind (propRecord l n .kind)) (propRecord l n)
-      (λ m x. let c = child-below h n m k x in prop-enough f g m (omega arith) (omega arith) (omega arith))
+      (λ m x. let c = child-below d n m k x in prop-enough f g m (omega arith) (omega arith) (omega arith))
 
   pub prop-step : (n : ℕ) → n < props l → propAt l n ≡ prop-of l n (propAt l) (prop-kind (propRecord l n .kind)) (propRecord l n)
   unfolding propAt prop-within
   prop-step n k =
       prop-of-same l n (prop-within n l) (propAt l) (prop-kind (propRecord l n .kind)) (propRecord l n)
-      (λ m x. let c = child-below h n m k x in prop-enough n (suc m) m c (omega arith) (omega arith))
+      (λ m x. let c = child-below d n m k x in prop-enough n (suc m) m c (omega arith) (omega arith))
 
 -- TERMS
-term-of-same : (t : ℕ) (A : Option Ty) (sub sub′ : ℕ → Term) (K : Kind) (r : TermRecord) → ((m : ℕ) → 0 < hits m (term-children (term-shape K .children) r) → sub m ≡ sub′ m)
+pub term-of-same : (t : ℕ) (A : Option Ty) (sub sub′ : ℕ → Term) (K : Kind) (r : TermRecord) → ((m : ℕ) → 0 < hits m (term-children (term-shape K .children) r) → sub m ≡ sub′ m)
     → term-of t A sub K r ≡ term-of t A sub′ K r
 unfolding term-of term-children term-shape
 term-of-same t A sub sub′ K r e = at K e
@@ -91,18 +91,46 @@ term-of-same t A sub sub′ K r e = at K e
     at Sorry e = refl
     at Strange e = refl
 
-module _ {p : Purpose} {l : List ℕ} (h : Linked p l) where
+module _ {l : List ℕ} (d : Directed l) where
   term-enough : (f g t : ℕ) → terms l ≤ t + f → terms l ≤ t + g → t < terms l → term-within f l t ≡ term-within g l t
   unfolding term-within
   term-enough zero g t a b k = absurd (omega arith)
   term-enough (suc f) zero t a b k = absurd (omega arith)
   term-enough (suc f) (suc g) t a b k =
       term-of-same t (annotated l t) (term-within f l) (term-within g l) (kind-of (termRecord l t .kind)) (termRecord l t)
-      (λ m x. let c = term-child h t m k x in term-enough f g m (omega arith) (omega arith) (c .1))
+      (λ m x. let c = term-child d t m k x in term-enough f g m (omega arith) (omega arith) (c .1))
 
   pub term-step : (t : ℕ) → t < terms l → termAt l t ≡ term-of t (annotated l t) (termAt l) (kind-of (termRecord l t .kind)) (termRecord l t)
   unfolding termAt term-within
   term-step t k = term-enough (terms l) (suc (terms l)) t (omega arith) (omega arith) k
+
+-- A TERM'S PLACE is its record's number
+place-of : (t : ℕ) (A : Option Ty) (sub : ℕ → Term) (K : Kind) (r : TermRecord) → place (term-of t A sub K r) ≡ t
+unfolding place term-of ascribed
+place-of t A sub Ident r = refl
+place-of t A sub Pair r = refl
+place-of t A sub ProjectFst r = refl
+place-of t A sub ProjectSnd r = refl
+place-of t A sub Function r = refl
+place-of t A sub Application r = refl
+place-of t A sub LetIn r = refl
+place-of t A sub OrLeft r = refl
+place-of t A sub OrRight r = refl
+place-of t A sub Case r = refl
+place-of t A sub Abort r = refl
+place-of t A sub TheUnit r = refl
+place-of t none sub TypeAscription r = refl
+place-of t (some B) sub TypeAscription r = refl
+place-of t A sub Sorry r = refl
+place-of t A sub Strange r = refl
+
+pub place-at : (l : List ℕ) (t : ℕ) → place (termAt l t) ≡ t
+unfolding termAt place term-within
+place-at l t = at (terms l)
+  where
+    at : (f : ℕ) → place (term-within f l t) ≡ t
+    at zero = refl
+    at (suc f) = place-of t (annotated l t) (term-within f l) (kind-of (termRecord l t .kind)) (termRecord l t)
 
 -- THE SHAPE OF A TERM. Where a record's tag is in its kind's range, the term is a node over its children, with the record's type if it has one, and a gap if the
 -- kind is Sorry
@@ -187,11 +215,11 @@ pub tag-range : {l : List ℕ} → Formed l → (t : ℕ) → t < terms l
 unfolding term-form
 tag-range {l} f t k = tag-in (term-shape (kind-of (termRecord l t .kind))) (termRecord l t) (f .term t k)
 
-pub term-view : {p : Purpose} {l : List ℕ} → Formed l → Linked p l → (t : ℕ) → t < terms l
+pub term-view : {l : List ℕ} → Formed l → Directed l → (t : ℕ) → t < terms l
     → View t (annotated l t) (termAt l) (is-gap (kind-of (termRecord l t .kind))) (term-links (termRecord l t)) (termAt l t)
-term-view {l = l} f h t k =
+term-view {l} f d t k =
     let r = tag-range f t k in
-    subst⁻¹ (View t (annotated l t) (termAt l) (is-gap (kind-of (termRecord l t .kind))) (term-links (termRecord l t))) (term-step h t k)
+    subst⁻¹ (View t (annotated l t) (termAt l) (is-gap (kind-of (termRecord l t .kind))) (term-links (termRecord l t))) (term-step d t k)
     (view-of l t (termAt l) (termRecord l t) (kind-of (termRecord l t .kind)) (termRecord l t .tag) (termRecord l t .typ) (r .0) (r .1))
 
 -- UPWARDS. `up` leads from a record to the next above it, and a rank falls on the way. Then as many steps as the rank are enough
@@ -209,7 +237,7 @@ module _ {X : Type 0} (up : ℕ → Guilty) (rank : ℕ → ℕ) (falls : (n m :
       at (At m) e = absurd (omega (arith, falls n m e))
       at Nobody e = e
 
-  climb-enough : (f g n : ℕ) → rank n ≤ f → rank n ≤ g → within f n ≡ within g n
+  pub climb-enough : (f g n : ℕ) → rank n ≤ f → rank n ≤ g → within f n ≡ within g n
   climb-enough zero g n a b = start n ∙ sym (climb-root g n (lowest n a))
   climb-enough (suc f) zero n a b = root f n (lowest n b) ∙ sym (start n)
   climb-enough (suc f) (suc g) n a b = at (up n) refl (λ m c. climb-enough f g m (omega arith) (omega arith))
@@ -221,12 +249,12 @@ module _ {X : Type 0} (up : ℕ → Guilty) (rank : ℕ → ℕ) (falls : (n m :
   pub climb-up : (f g n m : ℕ) → rank n ≤ f → rank m ≤ g → up n ≡ At m → within f n ≡ on m (within g m)
   climb-up f g n m a b e = climb-enough f (suc f) n a (omega arith) ∙ next f n m e ∙ ap (on m) (climb-enough f g m (omega (arith, falls n m e)) b)
 
-module _ {p : Purpose} {l : List ℕ} (h : Linked p l) where
+module _ {l : List ℕ} (d : Directed l) where
   abbrev kind-at : ℕ → PropKind
   kind-at n = prop-kind (propRecord l n .kind)
 
   rising : (n m : ℕ) → parent l n ≡ At m → props l - m < props l - n
-  rising n m e = let r = parent-above h m n e in omega arith
+  rising n m e = let r = parent-above d m n e in omega arith
 
   -- the objects of the quantifiers above, from the parent's
   binders-up : (n m : ℕ) → parent l m ≡ At n → binders l m ≡ object (kind-at n) (propRecord l n .a) (binders l n)
@@ -235,14 +263,17 @@ module _ {p : Purpose} {l : List ℕ} (h : Linked p l) where
       climb-up (parent l) (λ n. props l - n) rising (λ f n. binders-within f l n) [] (λ n xs. object (kind-at n) (propRecord l n .a) xs)
       (λ n. refl) (λ f n e. rw e) (λ f n m e. rw e) (props l) (props l) m n (omega arith) (omega arith) e
 
-  pub binders-child : (n m : ℕ) → n < props l → 0 < hits m (prop-links (propRecord l n)) → binders l m ≡ object (prop-kind (propRecord l n .kind)) (propRecord l n .a) (binders l n)
-  binders-child n m k x = binders-up n m (parent-child h n m k x)
-
   pub binders-root : (n : ℕ) → parent l n ≡ Nobody → binders l n ≡ []
   unfolding binders binders-within above
   binders-root n e =
       climb-root (parent l) (λ n. props l - n) rising (λ f n. binders-within f l n) [] (λ n xs. object (kind-at n) (propRecord l n .a) xs)
       (λ n. refl) (λ f n e. rw e) (λ f n m e. rw e) (props l) n e
+
+  pub binders-enough : (f n : ℕ) → props l ≤ f → binders-within f l n ≡ binders l n
+  unfolding binders binders-within above
+  binders-enough f n a =
+      climb-enough (parent l) (λ n. props l - n) rising (λ f n. binders-within f l n) [] (λ n xs. object (kind-at n) (propRecord l n .a) xs)
+      (λ n. refl) (λ f n e. rw e) (λ f n m e. rw e) f (props l) n (omega arith) (omega arith)
 
   -- the nearest of them
   nearest-up : (n m : ℕ) → parent l m ≡ At n → nearest l m ≡ nearer (kind-at n) n (nearest l n)
@@ -250,9 +281,6 @@ module _ {p : Purpose} {l : List ℕ} (h : Linked p l) where
   nearest-up n m e =
       climb-up (parent l) (λ n. props l - n) rising (λ f n. nearest-within f l n) Nobody (λ n g. nearer (kind-at n) n g)
       (λ n. refl) (λ f n e. rw e) (λ f n m e. rw e) (props l) (props l) m n (omega arith) (omega arith) e
-
-  pub nearest-child : (n m : ℕ) → n < props l → 0 < hits m (prop-links (propRecord l n)) → nearest l m ≡ nearer (prop-kind (propRecord l n .kind)) n (nearest l n)
-  nearest-child n m k x = nearest-up n m (parent-child h n m k x)
 
   pub nearest-root : (n : ℕ) → parent l n ≡ Nobody → nearest l n ≡ Nobody
   unfolding nearest nearest-within nearest-above
@@ -290,7 +318,7 @@ module _ {p : Purpose} {l : List ℕ} (h : Linked p l) where
     where
       at : (u : Guilty) → parent l n ≡ u → ((m : ℕ) → props l - m < props l - n → Nearest m (nearest l m) (binders l m)) → Nearest n (nearest l n) (binders l n)
       at (At m) e rest =
-          let r = parent-above h m n e in
+          let r = parent-above d m n e in
           subst₂ (Nearest n) (sym (nearest-up m n e)) (sym (binders-up m n e)) (nearest-join (kind-at m) n m (nearest l m) (r .2) (r .0) (rest m (rising n m e)))
       at Nobody e rest = nearest-top n e
 
@@ -312,3 +340,11 @@ module _ {p : Purpose} {l : List ℕ} (h : Linked p l) where
   pub settled-past : (x k n q : ℕ) → nearest l n ≡ At q → (x ≡ propRecord l q .a → ⊥) → settled x k (binders l n) ≡ settled x (suc k) (binders l q)
   unfolding settled
   settled-past x k n q e y = rw (binders-at n q e .2, ne-eqb x (propRecord l q .a) y)
+
+-- from the parent's, where each record has one
+module _ {p : Purpose} {l : List ℕ} (h : Linked p l) where
+  pub binders-child : (n m : ℕ) → n < props l → 0 < hits m (prop-links (propRecord l n)) → binders l m ≡ object (prop-kind (propRecord l n .kind)) (propRecord l n .a) (binders l n)
+  binders-child n m k x = binders-up (directed h) n m (parent-child h n m k x)
+
+  pub nearest-child : (n m : ℕ) → n < props l → 0 < hits m (prop-links (propRecord l n)) → nearest l m ≡ nearer (prop-kind (propRecord l n .kind)) n (nearest l n)
+  nearest-child n m k x = nearest-up (directed h) n m (parent-child h n m k x)

@@ -16,7 +16,7 @@ use Rattle.table.specs.Reading.{binders, settled, prop-of, propAt}
 use Rattle.table.specs.Size.{height, holder, below, depth-within, depth}
 use Rattle.table.specs.Closed.{closed-params}
 use Rattle.table.specs.Passing.{Formed, Linked}
-use Rattle.table.proofs.Links.{holder-child, holder-above}
+use Rattle.table.proofs.Links.{directed, holder-child, holder-above}
 use Rattle.table.proofs.Reading.{prop-step, count-range, climb-up}
 
 module _ (l : List ℕ) (n : ℕ) (sub : ℕ → Prop) where
@@ -46,14 +46,14 @@ module _ (l : List ℕ) (n : ℕ) (sub : ℕ → Prop) where
 
 module _ {p : Purpose} {l : List ℕ} (h : Linked p l) (n : ℕ) (k : n < props l) where
   pub height-none : prop-shape (prop-kind (propRecord l n .kind)) .children ≡ 0 → height (propAt l n) ≡ 1
-  height-none e = ap height (prop-step h n k) ∙ none-of l n (propAt l) (prop-kind (propRecord l n .kind)) (propRecord l n) e
+  height-none e = ap height (prop-step (directed h) n k) ∙ none-of l n (propAt l) (prop-kind (propRecord l n .kind)) (propRecord l n) e
 
   pub height-one : prop-shape (prop-kind (propRecord l n .kind)) .children ≡ 1 → height (propAt l n) ≡ suc (height (propAt l (propRecord l n .c)))
-  height-one e = ap height (prop-step h n k) ∙ one-of l n (propAt l) (prop-kind (propRecord l n .kind)) (propRecord l n) e
+  height-one e = ap height (prop-step (directed h) n k) ∙ one-of l n (propAt l) (prop-kind (propRecord l n .kind)) (propRecord l n) e
 
   pub height-two : 1 < prop-shape (prop-kind (propRecord l n .kind)) .children
       → height (propAt l n) ≡ suc (max (height (propAt l (propRecord l n .a))) (height (propAt l (propRecord l n .b))))
-  height-two e = ap height (prop-step h n k) ∙ two-of l n (propAt l) (prop-kind (propRecord l n .kind)) (propRecord l n) e
+  height-two e = ap height (prop-step (directed h) n k) ∙ two-of l n (propAt l) (prop-kind (propRecord l n .kind)) (propRecord l n) e
 
 pub depth-root : (l : List ℕ) → depth l 0 ≡ 1
 unfolding depth depth-within
@@ -62,7 +62,7 @@ depth-root l = refl
 pub depth-child : {p : Purpose} {l : List ℕ} → Linked p l → (t c : ℕ) → t < terms l → 0 < hits c (term-links (termRecord l t)) → depth l c ≡ suc (depth l t)
 unfolding depth depth-within below
 depth-child {l = l} h t c k x =
-    climb-up (holder l) (λ t. t) (λ c t e. holder-above h t c e .2) (λ f t. depth-within f l t) 1 (λ t d. suc d) (λ t. refl) (λ f t e. rw e) (λ f c t e. rw e)
+    climb-up (holder l) (λ t. t) (λ c t e. holder-above (directed h) t c e .2) (λ f t. depth-within f l t) 1 (λ t d. suc d) (λ t. refl) (λ f t e. rw e) (λ f c t e. rw e)
     c t c t (omega arith) (omega arith) (holder-child h t c k x)
 
 -- TEST 7, from the children's answers. It asks the same of a parameter wherever that stands
@@ -104,11 +104,11 @@ module _ {p : Purpose} {l : List ℕ} (h : Linked p l) (n : ℕ) (k : n < props 
   pub closed-none : Formed l → prop-shape (prop-kind (propRecord l n .kind)) .children ≡ 0 → closed (propAt l n) ≡ closed-params l n (propRecord l n)
   closed-none f e =
       let r = count-range f n k in
-      ap closed (prop-step h n k) ∙ closed-none-of l n (propAt l) (prop-kind (propRecord l n .kind)) (propRecord l n) (r .0) (r .1) e
+      ap closed (prop-step (directed h) n k) ∙ closed-none-of l n (propAt l) (prop-kind (propRecord l n .kind)) (propRecord l n) (r .0) (r .1) e
 
   pub closed-one : prop-shape (prop-kind (propRecord l n .kind)) .children ≡ 1 → closed (propAt l n) ≡ closed (propAt l (propRecord l n .c))
-  closed-one e = ap closed (prop-step h n k) ∙ closed-one-of l n (propAt l) (prop-kind (propRecord l n .kind)) (propRecord l n) e
+  closed-one e = ap closed (prop-step (directed h) n k) ∙ closed-one-of l n (propAt l) (prop-kind (propRecord l n .kind)) (propRecord l n) e
 
   pub closed-two : 1 < prop-shape (prop-kind (propRecord l n .kind)) .children
       → closed (propAt l n) ≡ closed (propAt l (propRecord l n .a)) && closed (propAt l (propRecord l n .b))
-  closed-two e = ap closed (prop-step h n k) ∙ closed-two-of l n (propAt l) (prop-kind (propRecord l n .kind)) (propRecord l n) e
+  closed-two e = ap closed (prop-step (directed h) n k) ∙ closed-two-of l n (propAt l) (prop-kind (propRecord l n .kind)) (propRecord l n) e

@@ -11,7 +11,7 @@ use Rattle.table.specs.declared.Verdict.{Verdict}
 use Rattle.table.specs.declared.Verdict.the-variants.{Passes}
 use Rattle.layout.specs.File.{props, terms, propRecord, termRecord}
 use Rattle.layout.specs.Form.{prop-form, term-form}
-use Rattle.table.specs.Links.{expected-ok, badly-linked-prop, badly-linked-term}
+use Rattle.table.specs.Links.{prop-links-ok, term-links-ok, expected-ok, badly-linked-prop, badly-linked-term}
 use Rattle.table.specs.Reading.{propAt}
 use Rattle.table.specs.Size.{height, depth}
 use Rattle.table.specs.Tests.{header, counts, tests}
@@ -33,6 +33,11 @@ pub record Linked (p : Purpose) (l : List ℕ) : Type 0 where
   pub goal : expected-ok p l ≡ true
   pub prop : (n : ℕ) → n < props l → badly-linked-prop p l n ≡ false
   pub term : (t : ℕ) → t < terms l → badly-linked-term l t ≡ false
+
+-- of test 5 only that every link is in range and goes the right way: what reading a table leans on
+pub record Directed (l : List ℕ) : Type 0 where
+  pub prop : (n : ℕ) → n < props l → prop-links-ok l n ≡ true
+  pub term : (t : ℕ) → t < terms l → term-links-ok l t ≡ true
 
 -- test 5 passed, for either purpose
 pub record WellLinked (l : List ℕ) : Type 0 where

@@ -17,7 +17,9 @@ use command::act;
 use libc::STDIN_FILENO;
 use number::record::Record;
 use number::record::record_at;
-use show::LONGEST;
+use show::input::LONGEST;
+use show::input::next_word;
+use show::input::read_table;
 use state::State;
 use table::Purpose;
 use table::Verdict;
@@ -39,14 +41,6 @@ fn next_command() -> Record {
     let mut bytes = [0u8; 16];
     io::read_full(STDIN_FILENO, &mut bytes);
     record_at(&bytes, 0)
-}
-
-// The next table; none where it is longer than the room.
-fn read_table(room: &mut [u8], count: usize) -> usize {
-    if count <= room.len() {
-        return io::read_full(STDIN_FILENO, &mut room[..count]);
-    }
-    0
 }
 
 // The table's propositions in their room, and how many there are: none of a table that does not pass.
@@ -75,7 +69,7 @@ fn run(room: &mut [u8], work: &mut [u8], count: u16)
         last: 0,
         mark: 0,
     };
-    let mut left = show::next_word();
+    let mut left = next_word();
     while 0 < left {
         left -= 1;
         s = act(room, work, s, next_command());
@@ -86,17 +80,15 @@ fn example() {
     let mut file = [0u8; LONGEST];
     let mut room = [0u8; state::ROOM];
     let mut work = [0u8; context::identifier_context::ROOM];
-    let length = show::next_word();
+    let length = next_word();
     let mode = next_mode();
     let got = read_table(&mut file, length);
-    if got <= LONGEST {
-        let count = load(&file[..got], &mut work, &mut room, purpose_of(mode));
-        run(&mut room, &mut work, count);
-    }
+    let count = load(&file[..got], &mut work, &mut room, purpose_of(mode));
+    run(&mut room, &mut work, count);
 }
 
 fn main() {
-    let mut left = show::next_word();
+    let mut left = next_word();
     while 0 < left {
         left -= 1;
         example();

@@ -19,6 +19,7 @@ ROWS = [
             "accepted 1 0", "1 1 - - 0 | T", "counts serials 0 made 1"),
     written("a byte short", (CASE_1, "drop 1"), "refused 3 0"),
     written("a byte over", (CASE_1, "bytes 0"), "refused 3 0"),
+    written("longer than the room into which programs read", (CASE_1, "bytes" + " 0" * 65537), "refused 3 0"),
     written("no header", ("bytes 78 68 84 0",), "refused 2 0"),
     written("another mark", (CASE_1, "set byte 2 85"), "refused 2 0"),
     written("another version", (CASE_1, "set header version 2"), "refused 2 0"),

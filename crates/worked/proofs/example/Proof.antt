@@ -1,6 +1,3 @@
-use mathlib.Core.Path.{sym}
-use native.Mathlib.Omega.{arith}
-use lib.Seq.{length-take-le}
 use Rattle.rules.specs.State.{limit}
 use borrow.Author.Needs.{needs}
 use Rattle.worked.proofs.example.Statement.{statement}
@@ -22,7 +19,7 @@ array-share-prefix-file : tie.Need-array-share-prefix-file
 array-share-prefix-file c = search needs
 
 slice-aggregate-load : tie.Need-slice-aggregate-load
-slice-aggregate-load c = sym (length-take-le _ (c .before .before .before .read-table .last .0) (omega (arith, c .before .before .before .read-table .kept .0)))
+slice-aggregate-load c = search needs
 
 slice-aggregate-load-2 : tie.Need-slice-aggregate-load-2
 slice-aggregate-load-2 c = search needs
@@ -49,9 +46,6 @@ run-requires c κs = search needs
 returns : tie.Need-returns
 returns c = search needs
 
-returns-2 : tie.Need-returns-2
-returns-2 c = search needs
-
 pub example-spec : {M : Type 1} → statement M
 example-spec =
     tie.close
@@ -69,5 +63,4 @@ example-spec =
     slice-aggregate-run
     slice-aggregate-run-2
     run-requires
-    returns
-    returns-2)
+    returns)

@@ -4,7 +4,7 @@ use mathlib.Core.Path.{_∙_}
 use Prim.Native.Nat.{ℕ}
 use mathlib.Core.Path.{refl}
 use native.Mathlib.Omega.{arith}
-use Rattle.marking.proofs.Bounds.{base-header, base-count, ready-inner, ready-work, ready-tree, ready-goals, ready-goal}
+use Rattle.marking.proofs.Bounds.{base-header, base-count, ready-inner, ready-work, ready-tree, ready-goals, ready-goal, ready-context}
 use Rattle.marking.proofs.Ranks.{rank-same}
 use Rattle.marking.proofs.Dispatch.{kind-is, kind-between, synthesizes-none, synthesizes-five, synthesizes-between, past-one, past-six, past-twelve, kind-never}
 use Rattle.checker.proofs.+chk-check+chk-chk_abort+chk-chk_as+chk-chk_case+chk-chk_ex+chk-chk_fun+chk-chk_let+chk-chk_or+chk-chk_pair+chk-chk_syn+syn-syn_all+syn-syn_app+syn-syn_as+syn-syn_case+syn-syn_fun+syn-syn_let+syn-syn_pair+syn-syn_proj+syn-synthesize.Lts-chk-check as lts
@@ -95,10 +95,10 @@ chk-as-requires t c κs =
 
 chk-sorry-requires : (t : ℕ) → lts.Need-chk-sorry-requires (claims t) (check-at t) check.Post
 chk-sorry-requires t c κs =
-    let at-match-keys10 = c .before .before in
+    let at-match-keys10 = c .before .before .before in
     let at-term-record = at-match-keys10 .before in
     let start = at-term-record .before .before .before .before .before .before in
-    (start .pre .1 .1, ((ready-tree (start .pre .1 .0), ready-inner (start .pre .1 .0) (start .args .st) refl), ((ready-goals (start .pre .1 .0), ready-goal (start .pre .1 .0)), kind-is _ _ _ 13 (at-term-record .term-record .ensures) (at-match-keys10 .match .keys10))))
+    (start .pre .1 .1, ((ready-tree (start .pre .1 .0), ready-inner (start .pre .1 .0) (start .args .st) refl), ((ready-goals (start .pre .1 .0), ready-goal (start .pre .1 .0)), (((start .pre .1 .0) .base .work-room, ready-context (start .pre .1 .0)), kind-is _ _ _ 13 (at-term-record .term-record .ensures) (at-match-keys10 .match .keys10)))))
 
 chk-syn-requires-3 : (t : ℕ) → lts.Need-chk-syn-requires-3 (claims t) (check-at t) check.Post
 chk-syn-requires-3 t c κs =
@@ -333,37 +333,42 @@ returns-9 t c =
 
 same-length-35 : (t : ℕ) → lts.Need-same-length-35 (claims t) (check-at t) check.Post
 same-length-35 t c =
-    let at-chk-sorry = c .before .before .before .before in
+    let at-chk-sorry = c .before .before .before .before .before .before in
     at-chk-sorry .chk-sorry .kept .1 .0
 
 same-length-36 : (t : ℕ) → lts.Need-same-length-36 (claims t) (check-at t) check.Post
 same-length-36 t c =
-    let at-chk-sorry = c .before .before .before .before in
+    let at-chk-sorry = c .before .before .before .before .before .before in
     at-chk-sorry .chk-sorry .kept .1 .1 .0
-
-returns-10 : (t : ℕ) → lts.Need-returns-10 (claims t) (check-at t) check.Post
-returns-10 t c =
-    let at-chk-sorry = c .before .before .before .before in
-    let start = at-chk-sorry .before .before .before .before .before .before .before .before .before .before in
-    at-chk-sorry .chk-sorry .ensures _ _ (start .pre .1 .0)
 
 same-length-37 : (t : ℕ) → lts.Need-same-length-37 (claims t) (check-at t) check.Post
 same-length-37 t c =
-    let at-chk-syn3 = c .before .before .before .before .before .before .before .before in
-    at-chk-syn3 .chk-syn3 .kept .1 .0
+    let at-chk-sorry = c .before .before .before .before .before .before in
+    at-chk-sorry .chk-sorry .kept .1 .1 .1 .0
+
+returns-10 : (t : ℕ) → lts.Need-returns-10 (claims t) (check-at t) check.Post
+returns-10 t c =
+    let at-chk-sorry = c .before .before .before .before .before .before in
+    let start = at-chk-sorry .before .before .before .before .before .before .before .before .before .before .before in
+    at-chk-sorry .chk-sorry .ensures _ (start .pre .1 .0)
 
 same-length-38 : (t : ℕ) → lts.Need-same-length-38 (claims t) (check-at t) check.Post
 same-length-38 t c =
     let at-chk-syn3 = c .before .before .before .before .before .before .before .before in
-    at-chk-syn3 .chk-syn3 .kept .1 .1 .0
+    at-chk-syn3 .chk-syn3 .kept .1 .0
 
 same-length-39 : (t : ℕ) → lts.Need-same-length-39 (claims t) (check-at t) check.Post
 same-length-39 t c =
     let at-chk-syn3 = c .before .before .before .before .before .before .before .before in
-    at-chk-syn3 .chk-syn3 .kept .1 .1 .1 .0
+    at-chk-syn3 .chk-syn3 .kept .1 .1 .0
 
 same-length-40 : (t : ℕ) → lts.Need-same-length-40 (claims t) (check-at t) check.Post
 same-length-40 t c =
+    let at-chk-syn3 = c .before .before .before .before .before .before .before .before in
+    at-chk-syn3 .chk-syn3 .kept .1 .1 .1 .0
+
+same-length-41 : (t : ℕ) → lts.Need-same-length-41 (claims t) (check-at t) check.Post
+same-length-41 t c =
     let at-chk-syn3 = c .before .before .before .before .before .before .before .before in
     at-chk-syn3 .chk-syn3 .kept .1 .1 .1 .1 .0
 
@@ -372,23 +377,23 @@ returns-11 t c =
     let at-chk-syn3 = c .before .before .before .before .before .before .before .before in
     at-chk-syn3 .chk-syn3 .ensures
 
-same-length-41 : (t : ℕ) → lts.Need-same-length-41 (claims t) (check-at t) check.Post
-same-length-41 t c =
-    let at-chk-or = c .before .before .before .before .before .before .before .before in
-    at-chk-or .chk-or .kept .1 .0
-
 same-length-42 : (t : ℕ) → lts.Need-same-length-42 (claims t) (check-at t) check.Post
 same-length-42 t c =
     let at-chk-or = c .before .before .before .before .before .before .before .before in
-    at-chk-or .chk-or .kept .1 .1 .0
+    at-chk-or .chk-or .kept .1 .0
 
 same-length-43 : (t : ℕ) → lts.Need-same-length-43 (claims t) (check-at t) check.Post
 same-length-43 t c =
     let at-chk-or = c .before .before .before .before .before .before .before .before in
-    at-chk-or .chk-or .kept .1 .1 .1 .0
+    at-chk-or .chk-or .kept .1 .1 .0
 
 same-length-44 : (t : ℕ) → lts.Need-same-length-44 (claims t) (check-at t) check.Post
 same-length-44 t c =
+    let at-chk-or = c .before .before .before .before .before .before .before .before in
+    at-chk-or .chk-or .kept .1 .1 .1 .0
+
+same-length-45 : (t : ℕ) → lts.Need-same-length-45 (claims t) (check-at t) check.Post
+same-length-45 t c =
     let at-chk-or = c .before .before .before .before .before .before .before .before in
     at-chk-or .chk-or .kept .1 .1 .1 .1 .0
 
@@ -405,4 +410,4 @@ returns-13 t c =
     absurd (kind-never (start .pre .1 .0) _ (at-term-record .term-record .ensures) (past-twelve _ (c .if2 .left) (at-match-rest .match .rest .0 .0 .0 .0 .1) (at-match-rest .match .rest .0 .0 .0 .1) (at-match-rest .match .rest .0 .0 .1) (at-match-rest .match .rest .0 .1)) (at-match-rest .match .rest .1))
 
 pub closed : {M : Type 1} (t : ℕ) → lts.Closed (claims t) (check-at t) check.Post M
-closed t = lts.spec (claims t) (check-at t) check.Post (term-record-requires t) (chk-syn-requires t) (chk-pair-requires t) (chk-fun-requires t) (chk-syn-requires-2 t) (chk-let-requires t) (chk-case-requires t) (chk-abort-requires t) (chk-unit-requires t) (chk-as-requires t) (chk-sorry-requires t) (chk-syn-requires-3 t) (chk-or-requires t) (same-length t) (same-length-2 t) (same-length-3 t) (same-length-4 t) (returns t) (same-length-5 t) (same-length-6 t) (same-length-7 t) (same-length-8 t) (returns-2 t) (same-length-9 t) (same-length-10 t) (same-length-11 t) (same-length-12 t) (returns-3 t) (same-length-13 t) (same-length-14 t) (same-length-15 t) (same-length-16 t) (returns-4 t) (same-length-17 t) (same-length-18 t) (same-length-19 t) (same-length-20 t) (returns-5 t) (same-length-21 t) (same-length-22 t) (same-length-23 t) (same-length-24 t) (returns-6 t) (same-length-25 t) (same-length-26 t) (same-length-27 t) (same-length-28 t) (returns-7 t) (same-length-29 t) (same-length-30 t) (returns-8 t) (same-length-31 t) (same-length-32 t) (same-length-33 t) (same-length-34 t) (returns-9 t) (same-length-35 t) (same-length-36 t) (returns-10 t) (same-length-37 t) (same-length-38 t) (same-length-39 t) (same-length-40 t) (returns-11 t) (same-length-41 t) (same-length-42 t) (same-length-43 t) (same-length-44 t) (returns-12 t) (returns-13 t)
+closed t = lts.spec (claims t) (check-at t) check.Post (term-record-requires t) (chk-syn-requires t) (chk-pair-requires t) (chk-fun-requires t) (chk-syn-requires-2 t) (chk-let-requires t) (chk-case-requires t) (chk-abort-requires t) (chk-unit-requires t) (chk-as-requires t) (chk-sorry-requires t) (chk-syn-requires-3 t) (chk-or-requires t) (same-length t) (same-length-2 t) (same-length-3 t) (same-length-4 t) (returns t) (same-length-5 t) (same-length-6 t) (same-length-7 t) (same-length-8 t) (returns-2 t) (same-length-9 t) (same-length-10 t) (same-length-11 t) (same-length-12 t) (returns-3 t) (same-length-13 t) (same-length-14 t) (same-length-15 t) (same-length-16 t) (returns-4 t) (same-length-17 t) (same-length-18 t) (same-length-19 t) (same-length-20 t) (returns-5 t) (same-length-21 t) (same-length-22 t) (same-length-23 t) (same-length-24 t) (returns-6 t) (same-length-25 t) (same-length-26 t) (same-length-27 t) (same-length-28 t) (returns-7 t) (same-length-29 t) (same-length-30 t) (returns-8 t) (same-length-31 t) (same-length-32 t) (same-length-33 t) (same-length-34 t) (returns-9 t) (same-length-35 t) (same-length-36 t) (same-length-37 t) (returns-10 t) (same-length-38 t) (same-length-39 t) (same-length-40 t) (same-length-41 t) (returns-11 t) (same-length-42 t) (same-length-43 t) (same-length-44 t) (same-length-45 t) (returns-12 t) (returns-13 t)

@@ -74,14 +74,15 @@ same-length-4 c = search needs
 
 returns-3 : tie.Need-returns-3
 returns-3 c =
-    let a = c .before .before .before .before .before .before .before .before .before .before .before .before .before .before .before .before .before .before .before .before .before .before .before .before .before .before .before .before .args in
+    let start = c .before .before .before .before .before .before .before .before .before .before .before .before .before .before .before .before .before .before .before .before .before .before .before .before .before .before .before .before in
+    let a = start .args in
     let over = c .before .before .before .before .before .before .before .before .before .before .before .before .before .before .before .before .before .before .before .before .before .before .exists-of in
     let made = c .before .before .before .before .before .before .before .before .before .before .before .before .before .before .before .put-in in
     let grown = c .before .before .before .before .before .before .before .before .before .grown in
     let first = c .before .before .before .before .before .before .before .enter-fresh .ensures in
     let second = c .before .before .enter-fresh2 .ensures in
     let-entered (a .file .now) (a .props .now) (a .work .now) (a .t) (a .wrong) (a .k .0) (a .r .child1 .0) (a .st) _ (over .result) (over .ensures) _ _ (c .before .before .before .before .before .before .before .before .before .before .before .before .before .before .before .before .before .before .before .before .datatype .given .1) _ (made .last .0) (made .result)
-    (c .before .before .before .before .before .before .before .before .before .before .before .before .before .before .before .before .before .before .before .before .before .before .before .before .count-of .ensures) (c .before .before .before .before .before .before .before .before .before .before .before .before .before .before .before .before .left-of .ensures) (made .ensures) _ _ (c .before .before .before .before .before .before .before .before .before .before .before .m .given .1) (grown .result) (grown .ensures) (a .r .name1) (a .r .name2) _ _ _ _ (first .0) (first .1) (second .0) (second .1)
+    (c .before .before .before .before .before .before .before .before .before .before .before .before .before .before .before .before .before .before .before .before .before .before .before .before .count-of .ensures) (c .before .before .before .before .before .before .before .before .before .before .before .before .before .before .before .before .left-of .ensures) (made .ensures) _ _ (c .before .before .before .before .before .before .before .before .before .before .before .m .given .1) (grown .result) (grown .ensures) (a .r .name1) (a .r .name2) _ _ _ _ (first .0) (first .1) (second .0) (second .1) (start .pre .1 .1 .1 .0)
 
 pub open-let-spec : {M : Type 1} → statement M
 open-let-spec =

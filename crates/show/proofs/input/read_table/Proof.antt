@@ -1,8 +1,9 @@
 use mathlib.Core.Path.{sym}
 use lib.Seq.{length-take-le}
 use borrow.Author.Needs.{needs}
-use Rattle.worked.proofs.read_table.Statement.{statement}
-use Rattle.worked.proofs.read_table.Tie as tie
+use Rattle.show.proofs.Counts.{counts-front}
+use Rattle.show.proofs.input.read_table.Statement.{statement}
+use Rattle.show.proofs.input.read_table.Tie as tie
 
 slice-relend-prefix-read-full : tie.Need-slice-relend-prefix-read-full
 slice-relend-prefix-read-full c = search needs
@@ -17,7 +18,19 @@ same-length : tie.Need-same-length
 same-length c = search needs
 
 returns : tie.Need-returns
-returns c = search needs
+returns c = counts-front _ _ _ (c .before .before .read-full .ensures)
+
+read-full-requires-2 : tie.Need-read-full-requires-2
+read-full-requires-2 c κs = search needs
+
+sub-skip : tie.Need-sub-skip
+sub-skip c = search needs
+
+skip-requires : tie.Need-skip-requires
+skip-requires c κs = search needs
+
+same-length-2 : tie.Need-same-length-2
+same-length-2 c = search needs
 
 returns-2 : tie.Need-returns-2
 returns-2 c = search needs
@@ -31,4 +44,8 @@ read-table-spec =
     read-full-requires
     same-length
     returns
+    read-full-requires-2
+    sub-skip
+    skip-requires
+    same-length-2
     returns-2)

@@ -1,6 +1,6 @@
 use native.Mathlib.Omega.{arith}
-use Rattle.replay_tables.proofs.skip.Statement.{statement}
-use Rattle.replay_tables.proofs.skip.Tie as tie
+use Rattle.show.proofs.input.skip.Statement.{statement}
+use Rattle.show.proofs.input.skip.Tie as tie
 
 abbrev Inv-loop : tie.InvT-loop
 Inv-loop count left₀ left = Unit {0}
@@ -17,16 +17,19 @@ sub-left c = omega arith
 skip-byte-requires : tie.Need-skip-byte-requires Inv-loop μ-loop
 skip-byte-requires c κs = tt
 
+returns : tie.Need-returns Inv-loop μ-loop
+returns c = tt
+
 loop-less : tie.Need-loop-less Inv-loop μ-loop
 loop-less c = omega arith
 
 loop-again : tie.Need-loop-again Inv-loop μ-loop
 loop-again c = tt
 
-returns : tie.Need-returns Inv-loop μ-loop
-returns c = tt
+returns-2 : tie.Need-returns-2 Inv-loop μ-loop
+returns-2 c = tt
 
 pub skip-spec : {M : Type 1} → statement M
 skip-spec =
     tie.close
-    (tie.spec Inv-loop μ-loop loop-holds sub-left skip-byte-requires loop-less loop-again returns)
+    (tie.spec Inv-loop μ-loop loop-holds sub-left skip-byte-requires returns loop-less loop-again returns-2)

@@ -1,5 +1,5 @@
 """What answers each need of each member of the cycle: the law of `marking` and its arguments. See README.md."""
-RANK={'check':5,'chk_abort':4,'chk_as':4,'chk_case':4,'chk_ex':3,'chk_fun':4,'chk_let':4,'chk_or':4,'chk_pair':4,'chk_syn':4,'syn_all':6,'syn_app':1,'syn_as':1,'syn_case':1,'syn_fun':1,'syn_let':1,'syn_pair':1,'syn_proj':1,'synthesize':2}
+RANK={'check':5,'chk_abort':4,'chk_asc':4,'chk_case':4,'chk_exists':3,'chk_fun':4,'chk_let_in':4,'chk_or':4,'chk_pair':4,'chk_compare':4,'syn_forall':6,'syn_app':1,'syn_asc':1,'syn_case':1,'syn_fun':1,'syn_let_in':1,'syn_pair':1,'syn_proj':1,'synthesize':2}
 A={}
 M='use Rattle.marking.proofs.'
 BOUNDS=M+'Bounds.{base-header, base-count, ready-inner, ready-work, ready-tree, ready-goals, ready-goal}'
@@ -18,8 +18,8 @@ fin=sec+" _ (@After-two .two .given .1)"
 A['chk_pair']={'use':['use mathlib.Core.Path.{refl}','use native.Mathlib.Omega.{arith}',BOUNDS,M+'Moves.{loaded-arena, loaded-type}',M+'Ranks.{rank-same, rank-child}',M+'Pairs.{pair-other, pair-child-1, pair-child-2, pair-ready-1, pair-type-1, pair-stop-1, pair-ready-2, pair-type-2, pair-stop-2, pair-put, pair-done}'],
  'count-of-requires':COUNT,
  'and-of-requires':f"(loaded-arena _ _ (@Start .args .st) _ (@After-count-of .count-of .ensures) ({RD} .base .loaded), loaded-type (@Start .args .file .now) (@Start .args .st) _ (@Start .args .wanted) (@After-count-of .count-of .ensures) (@Start .pre .1 .1 .0))",
- 'chk-ex-requires':f"(rank-same _ _ 4 3 _ (@Start .pre .0) (omega arith), ({RD}, (@Start .pre .1 .1 .0, (@Start .pre .1 .1 .1, pair-other {b} (@After-enum-told .enum-told .given .1)))))",
- 'returns':'@After-chk-ex .chk-ex .ensures',
+ 'exists-requires':f"(rank-same _ _ 4 3 _ (@Start .pre .0) (omega arith), ({RD}, (@Start .pre .1 .1 .0, (@Start .pre .1 .1 .1, pair-other {b} (@After-enum-told .enum-told .given .1)))))",
+ 'returns':'@After-exists .exists .ensures',
  'term-record-requires':TERM,'inner-requires':INNER,
  'check-requires':f"(rank-child _ _ _ 4 5 _ (@Start .pre .0) (pair-child-1 {two}) (omega arith), (pair-ready-1 {two}, pair-type-1 {two}))",
  'returns-2':f"pair-stop-1 {one} _ _ (@After-enum-told2 .enum-told2 .given .1)",
@@ -77,7 +77,7 @@ A['chk_abort']={'use':COMMON+[M+'Moves.{loaded-arena, loaded-left, made-more, ma
  'returns-2':f"abort-stop-1 {o1} _ _ (@After-enum-told2 .enum-told2 .given .1)",
  'returns-3':f"abort-data {f1} _ (@After-enum-told4 .enum-told4 .given .1)",'node-requires':'search needs','put-node-requires':f"abort-put {p1}",
  'returns-4':f"abort-done {p1} _ _ {NODE}"}
-# ---- chk_ex
+# ---- chk_exists
 b=f"{RD} (@Start .args .wanted) (@Start .pre .1 .1 .0) (@Start .pre .1 .1 .1 .0) (@Start .pre .1 .1 .1 .1) _ {EC} _ (@After-exists-of .exists-of .ensures)"
 d1=b+" _ _ (@After-datatype .datatype .given .1) _ (@After-term-record .term-record .ensures)"
 ob=d1+" _ (@After-object-of .object-of .ensures)"
@@ -87,7 +87,7 @@ o1=c1+" _ _ (@After-check .check .ensures)"
 g1=o1+" _ (@After-one .one .given .1)"
 o2=g1+" _ _ (@After-check2 .check2 .ensures)"
 f2=o2+" _ (@After-two .two .given .1)"
-A['chk_ex']={'use':COMMON+[M+'Moves.{loaded-arena, loaded-type, loaded-left, put-more, put-few}',M+'Witnesses.{ex-stop, ex-body, ex-child-1, ex-child-2, ex-no-ident, ex-unknown, ex-full, ex-ready-1, ex-type-1, ex-stop-1, ex-ready-2, ex-type-2, ex-stop-2, ex-put, ex-done}'],
+A['chk_exists']={'use':COMMON+[M+'Moves.{loaded-arena, loaded-type, loaded-left, put-more, put-few}',M+'Witnesses.{ex-stop, ex-body, ex-child-1, ex-child-2, ex-no-ident, ex-unknown, ex-full, ex-ready-1, ex-type-1, ex-stop-1, ex-ready-2, ex-type-2, ex-stop-2, ex-put, ex-done}'],
  'count-of-requires':COUNT,'exists-of-requires':f"({ARENA}, {WANTED})",'returns':f"ex-stop {b} (@After-enum-told .enum-told .given .1)",'term-record-requires':TERM,
  'object-of-requires':f"({RD} .base .table, (ex-child-1 {d1} .1, ready-work {RD}))",'left-of-requires':f"{RD} .base .made",
  'put-in-requires':f"({ARENA}, (ex-body {d1}, (loaded-left _ (@Start .args .st) _ _ {EC} (@After-left-of .left-of .ensures) ({RD} .base .table .counted), {RD} .base .loaded .long)))",
@@ -104,18 +104,18 @@ def sub(fact): return f"(rank-same _ _ 5 4 _ (@Start .pre .0) (omega arith), ({R
 def key(j,i): return f"kind-is _ _ _ {j} {ER} (@At-match-keys{i} .match .keys{i})"
 A['check']={'use':['use mathlib.Core.Path.{refl}','use native.Mathlib.Omega.{arith}',BOUNDS[:-1]+', ready-context}',M+'Ranks.{rank-same}',M+'Dispatch.{kind-is, kind-between, synthesizes-none, synthesizes-five, synthesizes-between, past-one, past-six, past-twelve, kind-never}'],
  'term-record-requires':TERM,
- 'chk-syn-requires':sub(f"synthesizes-none _ _ _ {ER} (@At-match-keys1 .match .keys1)"),'chk-pair-requires':sub(key(1,2)),'chk-fun-requires':sub(key(4,3)),
- 'chk-syn-requires-2':sub(f"synthesizes-five _ _ _ {ER} (@At-match-keys4 .match .keys4)"),'chk-let-requires':sub(key(6,5)),'chk-case-requires':sub(key(9,6)),'chk-abort-requires':sub(key(10,7)),
- 'chk-as-requires':sub(key(12,9)),
- **{f'returns{"" if i==1 else "-"+str(i)}':f"@After-{n} .{n} .ensures" for i,n in [(1,'chk-syn'),(2,'chk-pair'),(3,'chk-fun'),(4,'chk-syn2'),(5,'chk-let'),(6,'chk-case'),(7,'chk-abort'),(9,'chk-as'),(11,'chk-syn3'),(12,'chk-or')]},
+ 'compare-requires':sub(f"synthesizes-none _ _ _ {ER} (@At-match-keys1 .match .keys1)"),'pair-requires':sub(key(1,2)),'fun-requires':sub(key(4,3)),
+ 'compare-requires-2':sub(f"synthesizes-five _ _ _ {ER} (@At-match-keys4 .match .keys4)"),'let-in-requires':sub(key(6,5)),'case-requires':sub(key(9,6)),'abort-requires':sub(key(10,7)),
+ 'asc-requires':sub(key(12,9)),
+ **{f'returns{"" if i==1 else "-"+str(i)}':f"@After-{n} .{n} .ensures" for i,n in [(1,'compare'),(2,'pair'),(3,'fun'),(4,'compare2'),(5,'let-in'),(6,'case'),(7,'abort'),(9,'asc'),(11,'compare3'),(12,'or')]},
  'returns-8':f"@After-chk-unit .chk-unit .ensures _ _ {RD}",'returns-10':f"@After-chk-sorry .chk-sorry .ensures _ {RD}"}
 # ---- synthesize
 def ssub(fact): return f"(rank-same _ _ 2 1 _ (@Start .pre .0) (omega arith), (@Start .pre .1, {fact}))"
 SR='(@Start .pre .1)'
 A['synthesize']={'use':['use mathlib.Core.Path.{refl}','use native.Mathlib.Omega.{arith}',BOUNDS,M+'Ranks.{rank-same}',M+'Dispatch.{kind-is, kind-between, past-one, past-six, past-twelve, inject-not, abort-not, sorry-not}'],
  'term-record-requires':f"({SR} .base .table .counted, {SR} .here)",
- 'syn-pair-requires':ssub(key(1,2)),'syn-fun-requires':ssub(key(4,3)),'syn-app-requires':ssub(key(5,4)),'syn-let-requires':ssub(key(6,5)),'syn-case-requires':ssub(key(9,6)),'syn-as-requires':ssub(key(12,9)),
- **{f'returns{"" if i==1 else "-"+str(i)}':f"@After-{n} .{n} .ensures" for i,n in [(2,'syn-pair'),(3,'syn-fun'),(4,'syn-app'),(5,'syn-let'),(6,'syn-case'),(9,'syn-as'),(10,'syn-proj')]},
+ 'pair-requires':ssub(key(1,2)),'fun-requires':ssub(key(4,3)),'app-requires':ssub(key(5,4)),'let-in-requires':ssub(key(6,5)),'case-requires':ssub(key(9,6)),'asc-requires':ssub(key(12,9)),
+ **{f'returns{"" if i==1 else "-"+str(i)}':f"@After-{n} .{n} .ensures" for i,n in [(2,'pair'),(3,'fun'),(4,'app'),(5,'let-in'),(6,'case'),(9,'asc'),(10,'proj')]},
  'returns':f"@After-syn-ident .syn-ident .ensures _ _ {SR}",'returns-8':f"@After-syn-unit .syn-unit .ensures _ _ {SR}",
  'returns-7':f"abort-not {SR} _ {ER} (@At-match-keys7 .match .keys7)"}
 
@@ -124,20 +124,20 @@ PLACE=f"(ready-tree {RD}, ready-inner {RD} (@Start .args .st) refl)"
 A['check'].update({
  'chk-unit-requires':f"(({RD} .base .table, {RD} .base .made), ({RD} .base .loaded, (@Start .pre .1 .1, ({PLACE}, {key(11,8)}))))",
  'chk-sorry-requires':f"(@Start .pre .1 .1, ({PLACE}, ((ready-goals {RD}, ready-goal {RD}), (({RD} .base .work-room, ready-context {RD}), {key(13,10)}))))",
- 'chk-syn-requires-3':sub(f"synthesizes-between _ _ _ {ER} (past-one _ {nt(10,1)} {nt(10,2)}) (@Then1 .if1 .taken)"),
- 'chk-or-requires':sub(f"kind-between _ _ _ 6 9 {ER} (past-six _ (@Else1 .if1 .left) {nt(10,3)} {nt(10,4)} {nt(10,5)}) (@Then2 .if2 .taken)"),
+ 'compare-requires-3':sub(f"synthesizes-between _ _ _ {ER} (past-one _ {nt(10,1)} {nt(10,2)}) (@Then1 .if1 .taken)"),
+ 'or-requires':sub(f"kind-between _ _ _ 6 9 {ER} (past-six _ (@Else1 .if1 .left) {nt(10,3)} {nt(10,4)} {nt(10,5)}) (@Then2 .if2 .taken)"),
  'returns-13':f"absurd (kind-never {RD} _ {ER} (past-twelve _ (@Else2 .if2 .left) {nt(10,6)} {nt(10,7)} {nt(10,8)} {nt(10,9)}) {nt(10,10)})"})
 SPLACE=f"(ready-tree {SR}, ready-inner {SR} (@Start .args .st) refl)"
 A['synthesize'].update({
  'syn-ident-requires':f"(({SR} .base .table, {SR} .here), ({SPLACE}, (ready-work {SR}, {key(0,1)})))",
  'syn-unit-requires':f"(({SR} .base .table, {SR} .base .made), ({SR} .base .loaded, ({SPLACE}, {key(11,8)})))",
- 'syn-proj-requires':ssub(f"kind-between _ _ _ 1 4 {ER} (past-one _ {nt(9,1)} {nt(9,2)}) (@Then1 .if1 .taken)"),
+ 'proj-requires':ssub(f"kind-between _ _ _ 1 4 {ER} (past-one _ {nt(9,1)} {nt(9,2)}) (@Then1 .if1 .taken)"),
  'returns-11':f"inject-not {SR} _ {ER} (past-six _ (@Else1 .if1 .left) {nt(9,3)} {nt(9,4)} {nt(9,5)}) (@Then2 .if2 .taken)",
  'returns-12':f"sorry-not {SR} _ {ER} (past-twelve _ (@Else2 .if2 .left) {nt(9,6)} {nt(9,7)} {nt(9,8)} {nt(9,9)})"})
 MADE=f"(@Start .args .file .now) _ _ _ _ (@Start .args .st) _ _ _ {EC} (@After-left-of .left-of .ensures)"
 A['chk_abort'].update({'grown-requires':f"(made-more {MADE} (@After-make-constant .make-constant .ensures) _ _ (@After-m .m .given .1), made-few {MADE} (@After-make-constant .make-constant .ensures) _ _ (@After-m .m .given .1) ({RD} .base .table .counted))",
  'inner-requires':f"ready-inner {RD} (@After-grown .grown .result) (@After-grown .grown .ensures .1)"})
-A['chk_ex'].update({'grown-requires':f"(put-more (@Start .args .file .now) _ _ _ _ _ _ (@Start .args .st) _ {EC} (@After-left-of .left-of .ensures) (@After-put-in .put-in .ensures) _ _ (@After-m .m .given .1), put-few (@Start .args .file .now) _ _ _ _ _ _ (@Start .args .st) _ {EC} (@After-left-of .left-of .ensures) (@After-put-in .put-in .ensures) _ _ (@After-m .m .given .1) ({RD} .base .table .counted))",
+A['chk_exists'].update({'grown-requires':f"(put-more (@Start .args .file .now) _ _ _ _ _ _ (@Start .args .st) _ {EC} (@After-left-of .left-of .ensures) (@After-put-in .put-in .ensures) _ _ (@After-m .m .given .1), put-few (@Start .args .file .now) _ _ _ _ _ _ (@Start .args .st) _ {EC} (@After-left-of .left-of .ensures) (@After-put-in .put-in .ensures) _ _ (@After-m .m .given .1) ({RD} .base .table .counted))",
  'inner-requires':f"ready-inner {RD} (@After-grown .grown .result) (@After-grown .grown .ensures .1)"})
 
 # ---- ascriptions
@@ -145,7 +145,7 @@ CKIND='(@Start .pre .1 .1 .1)'; WT='(@Start .args .wanted) (@Start .pre .1 .1 .0
 EA='(@After-annotation-of .annotation-of .ensures)'; RT='(@After-resolve-type .resolve-type .ensures)'; EI='(@After-inner .inner .ensures)'
 AS_T='(@After-t .t .given .1)'
 OWN=['use native.Mathlib.Omega.{arith}',M+'Ranks.{rank-child}']  # only what is used
-# ---- chk_as
+# ---- chk_asc
 b=f"{RD} {CKIND} _ {ER} _ {EA}"
 t1=b+f" _ {AS_T}"
 v1=t1+f" {WT} _ _ {RT}"
@@ -153,7 +153,7 @@ v2=v1+" _ _ (@After-u .u .given .1)"
 cm=v2+" _ (@After-compare-types .compare-types .ensures) _ (@After-is-alpha .is-alpha .ensures)"
 LAST='@After-check .check .last'
 AFTER=f"(rooms ({LAST} .1 .0) ({LAST} .1 .1 .0) ({LAST} .1 .1 .1 .0) ({LAST} .1 .1 .1 .1 .0))"
-A['chk_as']={'use':OWN+['use Rattle.marking.specs.Rooms.{rooms}',M+'Ascriptions.{as-given, as-place, as-resolve, chk-as-unresolved, chk-as-count, chk-as-compare, chk-as-ready, chk-as-type, chk-as-apart, chk-as-done}'],
+A['chk_asc']={'use':OWN+['use Rattle.marking.specs.Rooms.{rooms}',M+'Ascriptions.{as-given, as-place, as-resolve, chk-as-unresolved, chk-as-count, chk-as-compare, chk-as-ready, chk-as-type, chk-as-apart, chk-as-done}'],
  'term-record-requires':TERM,'annotation-of-requires':'search needs','is-alpha-requires':'search needs',
  'returns':f"absurd (as-given {b} (@After-enum-told .enum-told .given .1))",
  'resolve-type-requires':f"as-resolve {t1}",'returns-2':f"chk-as-unresolved {v1} _ (@After-n .n .given .1)",
@@ -161,13 +161,13 @@ A['chk_as']={'use':OWN+['use Rattle.marking.specs.Rooms.{rooms}',M+'Ascriptions
  'check-requires':call('',(4,5),f"as-place {b}",f"chk-as-ready {v2}",f"chk-as-type {v2}"),
  'returns-3':f"chk-as-done {cm} (@Then1 .if1 .taken) {AFTER} (@After-check .check .result) (@After-check .check .ensures)",
  'returns-4':f"chk-as-apart {cm} (@Else1 .if1 .left)"}
-# ---- syn_as
+# ---- syn_asc
 b=f"{RD} {KIND} _ {ER} _ {EA}"
 t1=b+f" _ {AS_T}"
 v1=t1+f" _ _ {RT}"
 v2=v1+" _ _ (@After-a .a .given .1)"
 k1=v2+" _ _ (@After-check .check .ensures)"
-A['syn_as']={'use':OWN+[M+'Ascriptions.{as-given, as-place, as-resolve, syn-as-unresolved, syn-as-ready, syn-as-type, syn-as-stop, syn-as-done}'],
+A['syn_asc']={'use':OWN+[M+'Ascriptions.{as-given, as-place, as-resolve, syn-as-unresolved, syn-as-ready, syn-as-type, syn-as-stop, syn-as-done}'],
  'term-record-requires':TERM,'annotation-of-requires':'search needs',
  'returns':f"absurd (as-given {b} (@After-enum-told .enum-told .given .1))",
  'resolve-type-requires':f"as-resolve {t1}",'returns-2':f"syn-as-unresolved {v1} _ (@After-n .n .given .1)",
@@ -216,7 +216,7 @@ A['syn_fun']={'use':OWN+[M+'Functions.{fun-place, syn-fun-missing, syn-fun-resol
  'returns-4':f"syn-fun-unresolved {v1} _ (@After-n .n .given .1)",'returns-5':f"syn-fun-full {ab} (@After-enum-told4 .enum-told4 .given .1)",
  'returns-6':f"syn-fun-done {f1} _ {LV} _ _ {NODE}"}
 
-# ---- chk_let, syn_let
+# ---- chk_let_in, syn_let_in
 USES=['use mathlib.Core.Path.{refl}','use native.Mathlib.Omega.{arith}',M+'Ranks.{rank-child}']
 def letting(chk):
     W='(@Start .args .wanted)'
@@ -254,8 +254,8 @@ def letting(chk):
      'returns-3':f"let-open-stop {op} _ _ (@After-n .n .given .1)",
      'returns-4':f"let-close-stop {cl} _ (@After-n2 .n2 .given .1)"})
     return d
-A['chk_let']=letting(True)
-A['syn_let']=letting(False)
+A['chk_let_in']=letting(True)
+A['syn_let_in']=letting(False)
 # ---- chk_case, syn_case
 FILE='(@Start .args .file .now)'
 def sort(x): return f"(@After-{x} .{x} .given .0 .0)"       # of Has(t, s)
@@ -323,7 +323,7 @@ def casing(chk):
 A['chk_case']=casing(True)
 A['syn_case']=casing(False)
 
-# ---- cyF: chk_syn, syn_pair, syn_app, syn_all
+# ---- chk_compare, syn_pair, syn_app, syn_forall
 FILE='(@Start .args .file .now)'
 EL='(@After-left-of .left-of .ensures)'
 EI='(@After-inner .inner .ensures)'
@@ -332,7 +332,7 @@ def given(x): return f"(@After-{x} .{x} .given .1)"
 def ens(x): return f"(@After-{x} .{x} .ensures)"
 def has(x): return (f'(@After-{x} .{x} .given .0 .0)',f'(@After-{x} .{x} .given .0 .1 .0)') # the type and the state of a Has
 def based(t): return f"(base-header ({t}), base-count ({t}))"
-# ---- chk_syn
+# ---- chk_compare
 b=f"{RD} (@Start .args .wanted) (@Start .pre .1 .1 .0) (@Start .pre .1 .1 .1)"
 m1=b+f" _ _ {ens('synthesize')}"
 h1=m1+f" _ _ {given('t')}"
@@ -341,7 +341,7 @@ al=cm+f" {told(2)}"
 sf=al+f" _ {ens('shift')}"
 nd=sf+f" _ _ {NODE}"
 T1,S1=has('t')
-A['chk_syn']={'use':['use native.Mathlib.Omega.{arith}',M+'Bounds.{base-header, base-count}',M+'Ranks.{rank-same}',M+'Moves.{loaded-arena, loaded-type}',M+'Comparisons.{syn-stop, syn-base, syn-type, syn-wanted, syn-apart, syn-equal, syn-order, syn-shift, syn-inner, syn-put, syn-alpha}'],
+A['chk_compare']={'use':['use native.Mathlib.Omega.{arith}',M+'Bounds.{base-header, base-count}',M+'Ranks.{rank-same}',M+'Moves.{loaded-arena, loaded-type}',M+'Comparisons.{syn-stop, syn-base, syn-type, syn-wanted, syn-apart, syn-equal, syn-order, syn-shift, syn-inner, syn-put, syn-alpha}'],
  'synthesize-requires':f"(rank-same _ _ 4 2 _ (@Start .pre .0) (omega arith), {RD})",
  'count-of-requires':based(f"syn-base {h1}"),
  'compare-types-requires':f"(loaded-arena {FILE} _ {S1} _ {EC} (syn-base {h1} .loaded), (loaded-type {FILE} {S1} _ {T1} {EC} (syn-type {h1}), loaded-type {FILE} {S1} _ (@Start .args .wanted) {EC} (syn-wanted {h1})))",
@@ -374,7 +374,7 @@ b=f"{RD} {KIND} _ {ER} _ {EI}"
 m1=b+f" _ _ {ens('synthesize')}"
 h1=m1+f" _ _ {given('one')}"
 sp=h1+f" _ {EC} _ {ens('impl-of')}"
-al=sp+f" {told(2)} _ _ {ens('syn-all')}"
+al=sp+f" {told(2)} _ _ {ens('forall')}"
 af=al+f" _ _ {given('two')}"
 im=sp+f" _ _ {given('a')}"
 ck=im+f" _ _ {ens('check')}"
@@ -386,12 +386,12 @@ A['syn_app']={'use':['use mathlib.Core.Path.{refl}','use native.Mathlib.Omega.{a
  'returns':f"app-stop-1 {m1} _ _ {told('')}",
  'count-of-requires':based(f"app-base {h1}"),
  'impl-of-requires':f"(loaded-arena {FILE} _ {S1} _ {EC} (app-base {h1} .loaded), loaded-type {FILE} {S1} _ {T1} {EC} (app-type {h1}))",
- 'syn-all-requires':call('',(1,6),f"app-child-2 {b}",f"app-ready-2 {h1}",f"app-type {h1}"),
+ 'forall-requires':call('',(1,6),f"app-child-2 {b}",f"app-ready-2 {h1}",f"app-type {h1}"),
  'returns-2':f"app-all-stop {al} _ _ {told(3)}",'node-requires':'search needs','put-node-requires':f"app-all-put {af}",'returns-3':f"app-all-done {af} _ _ {NODE}",
  'check-requires':call('',(1,5),f"app-child-2 {b}",f"app-ready-2 {h1}",f"app-type-2 {im}"),
  'node-requires-2':'search needs','put-node-requires-2':f"app-put {fs}",
  'returns-4':f"app-stop-2 {ck} _ _ {given('n')}",'returns-5':f"app-done {fs} _ _ {ens('node2')} {ens('put-node2')}"}
-# ---- syn_all
+# ---- syn_forall
 b=f"(@Start .args .k .0) (@Start .args .f .0) (@Start .args .x .0) (@Start .args .t) {RD} _ {EC} _ {ens('forall-of')}"
 ob=b+f" _ _ {given('datatype')} _ {ens('object-of')}"
 ck=ob+f" _ {given('i')} _ _ {ens('check')}"
@@ -400,7 +400,7 @@ EC2=ens('count-of2')
 mk=fs+f" _ {EC2} _ {EL} _ _ {ens('put-in')}"
 PB=f"(all-base {fs})"
 S1='(@After-s .s .given .0 .0)'
-A['syn_all']={'use':['use native.Mathlib.Omega.{arith}',M+'Bounds.{base-header, base-count, ready-work}',M+'Ranks.{rank-same}',M+'Moves.{loaded-arena, loaded-type, loaded-left, put-more, put-few}',M+'Applications.{all-other, all-no-ident, all-unknown, all-stop, all-base, all-body, all-full, all-done}'],
+A['syn_forall']={'use':['use native.Mathlib.Omega.{arith}',M+'Bounds.{base-header, base-count, ready-work}',M+'Ranks.{rank-same}',M+'Moves.{loaded-arena, loaded-type, loaded-left, put-more, put-few}',M+'Applications.{all-other, all-no-ident, all-unknown, all-stop, all-base, all-body, all-full, all-done}'],
  'count-of-requires':COUNT,
  'forall-of-requires':f"({ARENA}, loaded-type {FILE} (@Start .args .st) _ (@Start .args .t) {EC} (@Start .pre .1 .1))",
  'returns':f"all-other {b} {told('')}",

@@ -80,24 +80,24 @@ pub fn check(
     let r = term_record(file, k);
     let kind = r.kind;
     match kind {
-        0 => chk_syn(file, tree, goals, props, work, k, wanted, st),
-        1 => chk_pair(file, tree, goals, props, work, k, wanted, st),
-        2..=3 => chk_syn(file, tree, goals, props, work, k, wanted, st),
-        4 => chk_fun(file, tree, goals, props, work, k, wanted, st),
-        5 => chk_syn(file, tree, goals, props, work, k, wanted, st),
-        6 => chk_let(file, tree, goals, props, work, k, wanted, st),
-        7..=8 => chk_or(file, tree, goals, props, work, k, wanted, st),
-        9 => chk_case(file, tree, goals, props, work, k, wanted, st),
-        10 => chk_abort(file, tree, goals, props, work, k, wanted, st),
+        0 => compare(file, tree, goals, props, work, k, wanted, st),
+        1 => pair(file, tree, goals, props, work, k, wanted, st),
+        2..=3 => compare(file, tree, goals, props, work, k, wanted, st),
+        4 => fun(file, tree, goals, props, work, k, wanted, st),
+        5 => compare(file, tree, goals, props, work, k, wanted, st),
+        6 => let_in(file, tree, goals, props, work, k, wanted, st),
+        7..=8 => or(file, tree, goals, props, work, k, wanted, st),
+        9 => case(file, tree, goals, props, work, k, wanted, st),
+        10 => abort(file, tree, goals, props, work, k, wanted, st),
         11 => chk_unit(file, tree, props, k, wanted, st),
-        12 => chk_as(file, tree, goals, props, work, k, wanted, st),
+        12 => asc(file, tree, goals, props, work, k, wanted, st),
         13 => chk_sorry(file, tree, goals, work, k, wanted, st),
         14..=255 => Checked::Refused(11, k),
     }
 }
 
 // Ident, projections, Application: what is synthesized is compared. Alpha-equal gets an AlphaEq above it.
-fn chk_syn(
+fn compare(
     file: &[u8],
     tree: &mut [u8],
     goals: &mut [u8],
@@ -131,7 +131,7 @@ fn chk_syn(
 }
 
 // Pair: against an And, part by part.
-fn chk_pair(
+fn pair(
     file: &[u8],
     tree: &mut [u8],
     goals: &mut [u8],
@@ -148,7 +148,7 @@ fn chk_pair(
 {
     let count = count_of(file, st);
     let Parts::Both(a, b) = and_of(props, count, wanted) else {
-        return chk_ex(file, tree, goals, props, work, k, wanted, st);
+        return exists(file, tree, goals, props, work, k, wanted, st);
     };
     let r = term_record(file, k);
     let x = r.child1;
@@ -169,7 +169,7 @@ fn chk_pair(
 }
 
 // Pair against an Exists: the witness is a known Ident, and is put into the body before it is checked itself.
-fn chk_ex(
+fn exists(
     file: &[u8],
     tree: &mut [u8],
     goals: &mut [u8],
@@ -218,7 +218,7 @@ fn chk_ex(
 }
 
 // Function: the serial, the expected Impl or ForAll, the annotation, the body, whose entry has the expected type.
-fn chk_fun(
+fn fun(
     file: &[u8],
     tree: &mut [u8],
     goals: &mut [u8],
@@ -260,7 +260,7 @@ fn chk_fun(
 }
 
 // LetIn: the head is an Exists, else 12; what is wanted holds no witness.
-fn chk_let(
+fn let_in(
     file: &[u8],
     tree: &mut [u8],
     goals: &mut [u8],
@@ -302,7 +302,7 @@ fn chk_let(
 }
 
 // OrLeft and OrRight: against an Or. The rules have their kinds' numbers.
-fn chk_or(
+fn or(
     file: &[u8],
     tree: &mut [u8],
     goals: &mut [u8],
@@ -335,7 +335,7 @@ fn chk_or(
 }
 
 // Case: the head is an Or, else 12; a serial and an arm, twice. The right arm does not have the left's hypothesis.
-fn chk_case(
+fn case(
     file: &[u8],
     tree: &mut [u8],
     goals: &mut [u8],
@@ -383,7 +383,7 @@ fn chk_case(
 }
 
 // Abort: its False is made, the body is held to it, and only then comes the test for a datatype.
-fn chk_abort(
+fn abort(
     file: &[u8],
     tree: &mut [u8],
     goals: &mut [u8],
@@ -419,7 +419,7 @@ fn chk_abort(
 }
 
 // TypeAscription: compared, and the inside is held to what is wanted. It has no node of its own.
-fn chk_as(
+fn asc(
     file: &[u8],
     tree: &mut [u8],
     goals: &mut [u8],

@@ -70,22 +70,22 @@ pub fn synthesize(
     let kind = r.kind;
     match kind {
         0 => syn_ident(file, tree, work, k, st),
-        1 => syn_pair(file, tree, goals, props, work, k, st),
-        2..=3 => syn_proj(file, tree, goals, props, work, k, st),
-        4 => syn_fun(file, tree, goals, props, work, k, st),
-        5 => syn_app(file, tree, goals, props, work, k, st),
-        6 => syn_let(file, tree, goals, props, work, k, st),
+        1 => pair(file, tree, goals, props, work, k, st),
+        2..=3 => proj(file, tree, goals, props, work, k, st),
+        4 => fun(file, tree, goals, props, work, k, st),
+        5 => app(file, tree, goals, props, work, k, st),
+        6 => let_in(file, tree, goals, props, work, k, st),
         7..=8 => Synthesized::Refused(25, k),
-        9 => syn_case(file, tree, goals, props, work, k, st),
+        9 => case(file, tree, goals, props, work, k, st),
         10 => Synthesized::Refused(25, k),
         11 => syn_unit(file, tree, props, k, st),
-        12 => syn_as(file, tree, goals, props, work, k, st),
+        12 => asc(file, tree, goals, props, work, k, st),
         13..=255 => Synthesized::Refused(25, k),
     }
 }
 
 // Pair: neither part may be a datatype, the second is tested first; their And is made.
-fn syn_pair(
+fn pair(
     file: &[u8],
     tree: &mut [u8],
     goals: &mut [u8],
@@ -126,7 +126,7 @@ fn syn_pair(
 }
 
 // ProjectFst and ProjectSnd: of an And, else 22 at the projection. Their rules' numbers are one more than their kinds'.
-fn syn_proj(
+fn proj(
     file: &[u8],
     tree: &mut [u8],
     goals: &mut [u8],
@@ -156,7 +156,7 @@ fn syn_proj(
 }
 
 // Function: an annotation is needed; the body, which is no datatype; then an Impl or a ForAll is made.
-fn syn_fun(
+fn fun(
     file: &[u8],
     tree: &mut [u8],
     goals: &mut [u8],
@@ -201,7 +201,7 @@ fn syn_fun(
 }
 
 // Application: of an Impl, to what fits its left part; or of a ForAll, to a known Ident of its datatype.
-fn syn_app(
+fn app(
     file: &[u8],
     tree: &mut [u8],
     goals: &mut [u8],
@@ -222,7 +222,7 @@ fn syn_app(
     };
     let x = r.child2;
     let Parts::Both(a, b) = impl_of(props, count_of(file, s1), t) else {
-        let two = syn_all(file, tree, goals, props, work, k, f, x, t, s1);
+        let two = forall(file, tree, goals, props, work, k, f, x, t, s1);
         let Synthesized::Has(found, s2) = two else {
             return two;
         };
@@ -242,8 +242,8 @@ fn syn_app(
 }
 
 // The argument x of the function f, whose type is no Impl, in the application k: the type is a ForAll, else 22; the object, once it is checked, is put
-// into its body. The application's own node is left to `syn_app`.
-fn syn_all(
+// into its body. The application's own node is left to `app`.
+fn forall(
     file: &[u8],
     tree: &mut [u8],
     goals: &mut [u8],
@@ -288,7 +288,7 @@ fn syn_all(
 }
 
 // LetIn: the head is an Exists, else 22; what the body answers holds no witness.
-fn syn_let(
+fn let_in(
     file: &[u8],
     tree: &mut [u8],
     goals: &mut [u8],
@@ -329,7 +329,7 @@ fn syn_let(
 }
 
 // Case: the arms are alpha-equal, else 26. It concludes the left arm's wording and answers the right's.
-fn syn_case(
+fn case(
     file: &[u8],
     tree: &mut [u8],
     goals: &mut [u8],
@@ -378,7 +378,7 @@ fn syn_case(
 }
 
 // TypeAscription: the inside is held to the annotation, which is answered. It has no node of its own.
-fn syn_as(
+fn asc(
     file: &[u8],
     tree: &mut [u8],
     goals: &mut [u8],

@@ -8,6 +8,7 @@ use Prim.Native.Nat.{ℕ, _+_, _*_, _<_, _≤_}
 use native.Mathlib.Nat.{add-mul}
 use native.Mathlib.Omega.{arith}
 use lib.Dec.{eqb}
+use borrow.Author.Tests.{not-true, not-false}
 use Rattle.number.specs.declared.record.Record.{Record}
 use Rattle.number.specs.Limits.{most-propositions, most-terms}
 use Rattle.layout.specs.File.{props, terms, expected, propRecord, termRecord}
@@ -25,14 +26,15 @@ use Rattle.table.specs.declared.Purpose.the-variants.{Check, Filling}
 use Rattle.table.specs.declared.Verdict.the-variants.{Passes, Refused}
 use Rattle.table.specs.Links.{badly-linked-prop, badly-linked-term}
 use Rattle.table.specs.Reading.{propAt, termAt}
-use Rattle.table.specs.Tests.{counts, or-term, formless, badly-linked, oversized, open-goal, unless, accused}
+use Rattle.table.specs.Tests.{tests, counts, or-term, formless, badly-linked, oversized, open-goal, unless, accused}
 use Rattle.table.specs.Passing.{Counted, Formed, Linked, Directed, Good}
+use Rattle.table.proofs.Headers.{counted}
 use Rattle.table.proofs.Firsts.{first-nobody}
 use Rattle.table.proofs.Links.{directed, expected-in}
 use Rattle.table.proofs.Reading.{place-at}
 use Rattle.table.proofs.Counting.{nodes-root, gaps-one}
 use Rattle.table.proofs.Passing.{Passed, good-passed, good-closed}
-use Rattle.table.proofs.Verdicts.{last-test}
+use Rattle.table.proofs.Verdicts.{refuse-3, refuse-6, last-test}
 use Rattle.table.proofs.Fills.{goal-sorry}
 use Rattle.editing.specs.Edited.{all-props, all-terms, moved-term, termBytes, Fillable, Joined, Edited, edited-tests}
 use Rattle.editing.proofs.Joins.{Sits, old-sits, added-sits, terms-joined, expected-joined, joined-counted, joined-formed, joined-directed}
@@ -84,6 +86,9 @@ module _ {old f : List ℕ} {q : ℕ} (h : Fillable old f q) where
 
   g : Passed Filling f
   g = good-passed (h .good)
+
+  pub both-tested : Counted old × (Counted f × Directed f)
+  both-tested = (o .counted, (g .counted, directed (g .linked)))
 
   pub stays : Sits (all-props old f) (all-terms old f) q (termBytes old q)
   stays = old-sits old f (o .formed) (directed (o .linked)) (g .counted .some) q (h .inside)
@@ -152,11 +157,38 @@ module _ {old f : List ℕ} {q : ℕ} (h : Fillable old f q) where
         sym (last-test Check e (header-joined E (o .marked)) c (none-formless e (whole-formed E replaces)) (edited-in-order .goal) (none-badly-linked e edited-in-order) small)
         ∙ rw edited-closed
 
-    pub edited-good : edited-tests e ≡ Passes → Good Check e
+    -- and its tests are those of a check
+    pub edited-verdict : edited-tests e ≡ tests Check e
     unfolding edited-tests unless accused
-    edited-good z = at (counts e) refl (oversized e) refl z
+    edited-verdict = at (counts e) refl (oversized e) refl
       where
-        at : (b : Bool) → counts e ≡ b → (g : Guilty) → oversized e ≡ g → cond b (accused 6 g Passes) (Refused 3 0) ≡ Passes → Good Check e
-        at true c Nobody small z = edited-passes c small
-        at true c (At i) small z = absurd (let w : _≡_ {A = ℕ} 0 1 = cc in omega arith)
-        at false c g small z = absurd (let w : _≡_ {A = ℕ} 0 1 = cc in omega arith)
+        at : (b : Bool) → counts e ≡ b → (g : Guilty) → oversized e ≡ g → cond b (accused 6 g Passes) (Refused 3 0) ≡ tests Check e
+        at true c Nobody small = sym (edited-passes c small)
+        at true c (At i) big =
+            refuse-6 Check e (header-joined E (o .marked)) c (none-formless e (whole-formed E replaces)) (edited-in-order .goal) (none-badly-linked e edited-in-order) i big
+        at false c g small = refuse-3 Check e (header-joined E (o .marked)) c
+
+    pub edited-good : edited-tests e ≡ Passes → Good Check e
+    edited-good z = sym edited-verdict ∙ z
+
+-- THE TESTS as the code runs them
+module _ (e : List ℕ) (ok : Bool) (told : ok ≡ counts e) where
+  pub refused-3 : not ok ≡ true → Refused 3 0 ≡ edited-tests e
+  unfolding edited-tests unless
+  refused-3 z = rw (sym told ∙ not-true ok z)
+
+  module _ (z : not ok ≡ false) where
+    fine : counts e ≡ true
+    fine = sym told ∙ not-false ok z
+
+    pub tested-counted : Counted e
+    tested-counted = counted e fine
+
+    module _ (g : Guilty) (found : g ≡ oversized e) where
+      pub refused-6 : (i : ℕ) → g ≡ At i → Refused 6 i ≡ edited-tests e
+      unfolding edited-tests unless accused
+      refused-6 i x = rw (fine, sym found ∙ x)
+
+      pub passes : g ≡ Nobody → Passes ≡ edited-tests e
+      unfolding edited-tests unless accused
+      passes x = rw (fine, sym found ∙ x)

@@ -5,3 +5,6 @@ pub mod Terms
 pub mod Names
 pub mod Heads
 pub mod Edits
+pub mod Alike
+pub mod Fields
+pub mod Rows

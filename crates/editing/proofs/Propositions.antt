@@ -3,7 +3,7 @@
 use mathlib.Core.Path.{_≡_, refl, ap, sym, subst, _∙_}
 use mathlib.Core.Bool.{Bool, true, false}
 use mathlib.Core.List.{List, map}
-use Prim.Native.Nat.{ℕ, zero, suc, _+_, _<_, _≤_}
+use Prim.Native.Nat.{ℕ, zero, suc, _+_, _-_, _<_, _≤_}
 use native.Mathlib.Omega.{arith}
 use lib.ListN.{take}
 use lib.Dec.{ltb}
@@ -19,7 +19,7 @@ use Rattle.table.specs.Passing.{Directed}
 use Rattle.table.proofs.Firsts.{first-at, first-clear, first-nobody}
 use Rattle.table.proofs.Links.{child-below, parent-above}
 use Rattle.table.proofs.Reading.{prop-of-same, binders-enough}
-use Rattle.editing.specs.Edited.{new-prop, all-props, Joined}
+use Rattle.editing.specs.Edited.{new-prop, Joined}
 use Rattle.editing.proofs.Moves.{hit-moved, hits-none, prop-links-moved}
 use Rattle.editing.proofs.Joins.{props-joined, prop-cases}
 
@@ -67,6 +67,45 @@ prop-of-binders l l′ n sub (quantified q) r e = refl
 prop-of-binders l l′ n sub atomic r e = ap (λ (ys : List ℕ). atom (table n) (r .a) (map (λ x. settled x 0 ys) (take (r .count) (r .parameters)))) e
 prop-of-binders l l′ n sub strange r e = refl
 
+-- A TABLE WITH MORE PROPOSITIONS, of which the new ones name none of the old
+module _ (l l′ : List ℕ) (d : Directed l) (more : props l ≤ props l′) (same : (n : ℕ) → n < props l → propRecord l′ n ≡ propRecord l n)
+    (unnamed : (n : ℕ) → n < props l → (p : ℕ) → p < props l′ → props l ≤ p → hits n (prop-links (propRecord l′ p)) ≡ 0) where
+  parent-same : (n : ℕ) → n < props l → parent l′ n ≡ parent l n
+  unfolding parent
+  parent-same n k =
+      ap (first (λ p. ltb 0 (hits n (prop-links (propRecord l′ p))))) (let so : props l′ ≡ props l + (props l′ - props l) = omega arith in so)
+      ∙ first-longer (λ p. ltb 0 (hits n (prop-links (propRecord l p)))) (λ p. ltb 0 (hits n (prop-links (propRecord l′ p)))) (props l) (props l′ - props l)
+      (λ p x. ap (λ (r : Record). ltb 0 (hits n (prop-links r))) (same p x))
+      (λ p x y. le-ltb 0 (hits n (prop-links (propRecord l′ p))) (omega (arith, unnamed n k p (omega arith) x)))
+
+  within-same : (c n : ℕ) → n < props l → binders-within c l′ n ≡ binders-within c l n
+  unfolding binders-within above
+  within-same zero n k = refl
+  within-same (suc c) n k = ap (λ (g : Guilty). above l′ g (binders-within c l′)) (parent-same n k) ∙ at (parent l n) refl (within-same c)
+    where
+      at : (g : Guilty) → parent l n ≡ g → ((m : ℕ) → m < props l → binders-within c l′ m ≡ binders-within c l m) → above l′ g (binders-within c l′) ≡ above l g (binders-within c l)
+      at Nobody z rest = refl
+      at (At m) z rest =
+          let x : m < props l = parent-above d m n z .0 in
+          λ i. object (prop-kind (same m x i .kind)) (same m x i .a) (rest m x i)
+
+  pub binders-kept : (n : ℕ) → n < props l → binders l′ n ≡ binders l n
+  unfolding binders
+  binders-kept n k = within-same (props l′) n k ∙ binders-enough d (props l′) n more
+
+  reads-same : (c n : ℕ) → n < props l → prop-within c l′ n ≡ prop-within c l n
+  unfolding prop-within
+  reads-same zero n k = refl
+  reads-same (suc c) n k =
+      ap (λ (r : Record). prop-of l′ n (prop-within c l′) (prop-kind (r .kind)) r) (same n k)
+      ∙ prop-of-binders l′ l n (prop-within c l′) (prop-kind (propRecord l n .kind)) (propRecord l n) (binders-kept n k)
+      ∙ prop-of-same l n (prop-within c l′) (prop-within c l) (prop-kind (propRecord l n .kind)) (propRecord l n)
+      (λ m x. reads-same c m (omega (arith, child-below d n m k x)))
+
+  pub prop-kept : (n : ℕ) → n < props l → propAt l′ n ≡ propAt l n
+  unfolding propAt
+  prop-kept n k = reads-same (suc n) n k
+
 module _ {old f : List ℕ} {q : ℕ} {r : Record} {e : List ℕ} (J : Joined old f q r e) (d : Directed old) where
   -- no proposition of the filling names one of the old table
   unnamed : (n : ℕ) → n < props old → (p : ℕ) → p < props e → props old ≤ p → hits n (prop-links (propRecord e p)) ≡ 0
@@ -76,39 +115,6 @@ module _ {old f : List ℕ} {q : ℕ} {r : Record} {e : List ℕ} (J : Joined ol
       let w = hit-moved (new-prop (props old)) n (prop-links (propRecord f j)) (subst (λ ms. 0 < hits n ms) (prop-links-moved (props old) (propRecord f j)) z) in
       omega (arith, w .1)
 
-  parent-same : (n : ℕ) → n < props old → parent e n ≡ parent old n
-  unfolding parent
-  parent-same n k =
-      ap (first (λ p. ltb 0 (hits n (prop-links (propRecord e p))))) (props-joined J)
-      ∙ first-longer (λ p. ltb 0 (hits n (prop-links (propRecord old p)))) (λ p. ltb 0 (hits n (prop-links (propRecord e p)))) (props old) (props f)
-      (λ p x. ap (λ (r : Record). ltb 0 (hits n (prop-links r))) (J .old-prop p x))
-      (λ p x y. le-ltb 0 (hits n (prop-links (propRecord e p))) (omega (arith, unnamed n k p (omega (arith, props-joined J)) x)))
-
-  within-same : (c n : ℕ) → n < props old → binders-within c e n ≡ binders-within c old n
-  unfolding binders-within above
-  within-same zero n k = refl
-  within-same (suc c) n k = ap (λ (g : Guilty). above e g (binders-within c e)) (parent-same n k) ∙ at (parent old n) refl (within-same c)
-    where
-      at : (g : Guilty) → parent old n ≡ g → ((m : ℕ) → m < props old → binders-within c e m ≡ binders-within c old m) → above e g (binders-within c e) ≡ above old g (binders-within c old)
-      at Nobody z rest = refl
-      at (At m) z rest =
-          let x : m < props old = parent-above d m n z .0 in
-          λ i. object (prop-kind (J .old-prop m x i .kind)) (J .old-prop m x i .a) (rest m x i)
-
-  binders-same : (n : ℕ) → n < props old → binders e n ≡ binders old n
-  unfolding binders
-  binders-same n k = ap (λ (c : ℕ). binders-within c e n) (props-joined J) ∙ within-same (all-props old f) n k ∙ binders-enough d (all-props old f) n (omega arith)
-
-  reads-same : (c n : ℕ) → n < props old → prop-within c e n ≡ prop-within c old n
-  unfolding prop-within
-  reads-same zero n k = refl
-  reads-same (suc c) n k =
-      ap (λ (r : Record). prop-of e n (prop-within c e) (prop-kind (r .kind)) r) (J .old-prop n k)
-      ∙ prop-of-binders e old n (prop-within c e) (prop-kind (propRecord old n .kind)) (propRecord old n) (binders-same n k)
-      ∙ prop-of-same old n (prop-within c e) (prop-within c old) (prop-kind (propRecord old n .kind)) (propRecord old n)
-      (λ m x. reads-same c m (omega (arith, child-below d n m k x)))
-
-  -- the old propositions stand for what they stood for
+  -- so the old propositions stand for what they stood for
   pub prop-same : (n : ℕ) → n < props old → propAt e n ≡ propAt old n
-  unfolding propAt
-  prop-same n k = reads-same (suc n) n k
+  prop-same = prop-kept old e d (omega (arith, props-joined J)) (J .old-prop) unnamed

@@ -9,6 +9,7 @@ use lib.ListN.{length, getD}
 use lib.Dec.{eqb, ltb}
 use Rattle.number.specs.declared.record.Record.{Record}
 use Rattle.number.specs.Records.{recordAt}
+use Rattle.number.specs.Limits.{most-propositions, most-terms}
 use Rattle.layout.specs.File.{props, terms, propRecord, termRecord, prop-kind, Sorry, kind-of}
 use Rattle.layout.specs.Form.{prop-shape, term-shape}
 use Rattle.table.specs.declared.Purpose.the-variants.{Check, Filling}
@@ -57,12 +58,19 @@ moved-subterms k p t r =
 abbrev pub moved-term : (p t : ℕ) → Record → Record
 moved-term p t r = moved-subterms (term-shape (kind-of (r .kind)) .children) p t r
 
--- THE EDITED TABLE'S COUNTS, and its header: the old one but for these
+-- THE EDITED TABLE'S COUNTS and its length; and its header: the old one but for the counts
 abbrev pub all-props : (old f : List ℕ) → ℕ
 all-props old f = props old + props f
 
 abbrev pub all-terms : (old f : List ℕ) → ℕ
 all-terms old f = terms old + terms f - 1
+
+abbrev pub edited-size : (old f : List ℕ) → ℕ
+edited-size old f = 16 + (16 * all-props old f + 16 * all-terms old f)
+
+-- the longest there can be, of a table and a filling that keep the limits
+abbrev pub edited-bytes : ℕ
+edited-bytes = 16 * (1 + 2 * most-propositions + (2 * most-terms - 1))
 
 abbrev pub recounted : (p t : ℕ) → Record → Record
 recounted p t r =
@@ -89,7 +97,7 @@ pub record Fillable (old f : List ℕ) (q : ℕ) : Type 0 where
 -- e IS THE OLD TABLE JOINED WITH THE FILLING f, but with the record r for its term q. For a term q of the old table this settles every byte of e: the header is
 -- record 0, and each record after it is one of those named here
 pub record Joined (old f : List ℕ) (q : ℕ) (r : Record) (e : List ℕ) : Type 0 where
-  pub size : length e ≡ 16 + (16 * all-props old f + 16 * all-terms old f)
+  pub size : length e ≡ edited-size old f
   pub head : recordAt e 0 ≡ recounted (all-props old f) (all-terms old f) (recordAt old 0)
   pub old-prop : (n : ℕ) → n < props old → propRecord e n ≡ propRecord old n
   pub added-prop : (j : ℕ) → j < props f → propRecord e (new-prop (props old) j) ≡ moved-prop (props old) (propRecord f j)

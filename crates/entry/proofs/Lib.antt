@@ -1,3 +1,4 @@
 pub mod Rests
 pub mod Marks
 pub mod Runs
+pub mod Promises

@@ -1,3 +1,4 @@
 pub mod Mark
 pub mod Rest
 pub mod Ran
+pub mod Promises

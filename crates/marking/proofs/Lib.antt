@@ -30,3 +30,4 @@ pub mod Cases
 pub mod Comparisons
 pub mod Applications
 pub mod Starts
+pub mod Goals

@@ -10,8 +10,8 @@ mod closed;
 mod forming;
 mod link;
 mod naming;
-mod opening;
-mod size;
+pub mod opening;
+pub mod size;
 
 use number::Proposition;
 

@@ -165,7 +165,7 @@ unfolding long-enough
 long-is tree goals ps work = refl
 
 module _ (R : Rooms) (long : long-enough R ≡ true) where
-  lengths : (tree-bytes ≤ length (R .tree)) × (goals-bytes ≤ length (R .goals)) × (props-bytes ≤ length (R .props)) × (work-bytes ≤ length (R .work))
+  pub lengths : (tree-bytes ≤ length (R .tree)) × (goals-bytes ≤ length (R .goals)) × (props-bytes ≤ length (R .props)) × (work-bytes ≤ length (R .work))
   unfolding long-enough
   lengths =
       let a = both-true (leb tree-bytes (length (R .tree))) _ long in

@@ -1,0 +1,21 @@
+-- The first bytes of a room, written by a call that was lent them. Assumes nothing.
+use mathlib.Core.Path.{_≡_, ap, sym, _∙_}
+use mathlib.Core.List.{List, _++_}
+use Prim.Native.Nat.{ℕ, _≤_}
+use native.Mathlib.Omega.{arith}
+use lib.ListN.{length, take, drop, take-append-drop}
+use lib.Seq.{length-front, length-take-le, take-at}
+
+module _ (size : ℕ) (old part : List ℕ) (fit : size ≤ length old) (same : length part ≡ length (take size old)) where
+  pub room-long : length (part ++ drop size old) ≡ length old
+  room-long = length-front old part size same
+
+  pub part-fits : size ≤ length (part ++ drop size old)
+  part-fits = omega (arith, room-long)
+
+  pub part-is : take size (part ++ drop size old) ≡ part
+  part-is = take-at part (drop size old) size (same ∙ length-take-le size old fit)
+
+-- unchanged
+pub room-same : (size : ℕ) (old part : List ℕ) → part ≡ take size old → part ++ drop size old ≡ old
+room-same size old part e = ap (λ (t : List ℕ). t ++ drop size old) e ∙ take-append-drop size old

@@ -1,0 +1,165 @@
+-- The stages of a filling's answer, each from what its step found. Assumes nothing.
+use mathlib.Core.Path.{_≡_, refl, ap, sym, subst, subst⁻¹, subst₂, _∙_}
+use mathlib.Core.Bool.{Bool, true, false, true≢false, false≢true}
+use mathlib.Core.List.{List}
+use Prim.Native.Nat.{ℕ, zero, _+_, _*_, _<_, _≤_}
+use native.Mathlib.Omega.{arith}
+use borrow.Author.Tests.{lt-ltb, le-ltb}
+use lib.ListN.{length}
+use lib.Dec.{ltb}
+use Rattle.number.specs.Records.{wordAt}
+use Rattle.rules.specs.State.{St}
+use Rattle.rules.specs.Tree.{Gap, holes}
+use Rattle.rules.specs.Step.{Out, refused, ok, Answer}
+use Rattle.rules.specs.Filling.{At, before, at-goal}
+use Rattle.table.specs.declared.Purpose.the-variants as purpose
+use Rattle.table.specs.declared.Verdict.{Verdict}
+use Rattle.table.specs.declared.Verdict.the-variants as verdict
+use Rattle.table.specs.Tests.{tests, Tested}
+use Rattle.table.specs.Passing.{Good}
+use Rattle.table.specs.Reading.{termAt}
+use Rattle.editing.specs.Edited.{Fillable, Edited, edited-tests}
+use Rattle.editing.proofs.Edits.{goal-fillable}
+use Rattle.marking.specs.Rooms.{Rooms}
+use Rattle.marking.specs.Trees.{goalAt}
+use Rattle.marking.proofs.Goals.{goal-term, goal-place}
+use Rattle.entry.specs.declared.Counts.{Counts}
+use Rattle.entry.specs.declared.Mark.{Mark}
+use Rattle.entry.specs.declared.Mark.the-variants as mark
+use Rattle.entry.specs.Mark.{work-bytes, root-run, unless-refused, table-run, Kept, MarkedAs}
+use Rattle.entry.proofs.Marks.{verdict-is}
+use Rattle.filling.specs.declared.answer.Which.the-variants.{Old, Filling, Edit}
+use Rattle.filling.specs.declared.answer.Filled.{Filled}
+use Rattle.filling.specs.Fill.{Lent, Refuses, RunAs, EditedAs, Goal, GoalAs, FillingAs, OldAs}
+use Rattle.filling.specs.Steps.{ExactAll, OldRan, GoalOf, HoleAt, RunsFilling, FillsHole, FillsGoal}
+use Rattle.filling.proofs.Overs.{carries-over, run-on, goal-on, filling-on}
+
+-- ANSWERS TOLD APART
+abbrev accepted : Mark → Bool
+accepted (mark.Accepted c) = true
+accepted (mark.Refused n p) = false
+
+abbrev number : Mark → ℕ
+number (mark.Accepted c) = 0
+number (mark.Refused n p) = n
+
+abbrev place : Mark → ℕ
+place (mark.Accepted c) = 0
+place (mark.Refused n p) = p
+
+abbrev goals-of : Mark → ℕ
+goals-of (mark.Accepted c) = c .goals
+goals-of (mark.Refused n p) = 0
+
+abbrev is-ok : Out Answer → Bool
+is-ok (refused n p) = false
+is-ok (ok a st) = true
+
+abbrev answered : Answer → Out Answer → Answer
+answered d (refused n p) = d
+answered d (ok a st) = a
+
+pub same-answer : {o : Out Answer} {a b : Answer} {st su : St} → o ≡ ok a st → o ≡ ok b su → a ≡ b
+same-answer {a = a} e f = ap (answered a) (sym e ∙ f)
+
+-- 2. THE OLD TABLE
+pub table-ok : (l : List ℕ) (a : Answer) (st : St) → table-run l ≡ ok a st → Good purpose.Check l × (root-run l ≡ ok a st)
+unfolding unless-refused
+table-ok l a st h = at (tests purpose.Check l) refl h
+  where
+    at : (v : Verdict) → tests purpose.Check l ≡ v → unless-refused v (root-run l) ≡ ok a st → Good purpose.Check l × (root-run l ≡ ok a st)
+    at (verdict.Refused n p) e h = absurd (false≢true (ap is-ok h))
+    at verdict.Passes e h = (e, h)
+
+module _ (l f : List ℕ) (k : ℕ) (S S₁ S' : Lent) (x : ExactAll S) (y : ExactAll S₁) (m : Mark) (r : Filled) where
+  pub old-refused : (n p : ℕ) → m ≡ mark.Refused n p → (o : Out Answer) → MarkedAs l (S .rooms) (S₁ .rooms) o m → Refuses S₁ S' n p Old r → OldAs S S' l f k r o
+  old-refused n p e (refused n′ p′) h z =
+      subst₂ (λ (n p : ℕ). Refuses S S' n p Old r) (ap number (sym e ∙ h .0)) (ap place (sym e ∙ h .0)) (carries-over S S₁ S' x y .refuses z)
+  old-refused n p e (ok a st) h z = absurd (true≢false (ap accepted (sym (h .0) ∙ e)))
+
+  pub old-accepted : (c : Counts) → m ≡ mark.Accepted c → (o : Out Answer) → o ≡ table-run l → MarkedAs l (S .rooms) (S₁ .rooms) o m
+      → FillsGoal S₁ S' l f k r → OldAs S S' l f k r o
+  old-accepted c e (refused n p) t h z = absurd (true≢false (ap accepted (sym e ∙ h .0)))
+  old-accepted c e (ok a st) t h z = filling-on (carries-over S S₁ S' x y) l f k a r (tests purpose.Filling f) (z a st (table-ok l a st (sym t) .1))
+
+pub old-ran : (l : List ℕ) (R R₁ : Rooms) (m : Mark) (c : Counts) → m ≡ mark.Accepted c → (o : Out Answer) → o ≡ table-run l → MarkedAs l R R₁ o m → OldRan l R₁ (c .goals)
+old-ran l R R₁ m c e (refused n p) t h = absurd (true≢false (ap accepted (sym e ∙ h .0)))
+old-ran l R R₁ m c e (ok a st) t h =
+    let z = table-ok l a st (sym t) in
+    record { good = z .0; answer = a; state = st; accepts = z .1; holds = h .1 .holds; goals = ap goals-of (sym e ∙ h .0) }
+
+-- 3. THE FILLING'S TESTS
+pub filling-good : (f work left : List ℕ) (v : Verdict) → length work ≡ work-bytes → Tested purpose.Filling f work left v → v ≡ verdict.Passes → Good purpose.Filling f
+filling-good f work left v x t e = sym (verdict-is purpose.Filling f work left v x t) ∙ e
+
+module _ (l f : List ℕ) (k : ℕ) (S S₁ S' : Lent) (x : ExactAll S) (y : ExactAll S₁) (v : Verdict) (left : List ℕ) (t : Tested purpose.Filling f (S .rooms .work) left v) (r : Filled) where
+  verdict-of : v ≡ tests purpose.Filling f
+  verdict-of = verdict-is purpose.Filling f (S .rooms .work) left v (x .rooms .work) t
+
+  pub filling-refused : (n p : ℕ) → v ≡ verdict.Refused n p → Refuses S₁ S' n p Filling r → FillsGoal S S' l f k r
+  filling-refused n p e z a st h = subst (FillingAs S S' l f k a r) (sym e ∙ verdict-of) (carries-over S S₁ S' x y .refuses z)
+
+  -- 4. THE GOAL
+  module _ (e : v ≡ verdict.Passes) (count : ℕ) (old : OldRan l (S .rooms) count) where
+    count-is : (a : Answer) (st : St) → root-run l ≡ ok a st → count ≡ holes (a .tree)
+    count-is a st h = old .goals ∙ ap (λ (a : Answer). holes (a .tree)) (same-answer (old .accepts) h)
+
+    pub goal-missing : count ≤ k → Refuses S₁ S' 31 0 Old r → FillsGoal S S' l f k r
+    goal-missing few z a st h =
+        let c = count-is a st h in
+        let b : ltb k (holes (a .tree)) ≡ false = le-ltb k (holes (a .tree)) (omega arith) in
+        subst (FillingAs S S' l f k a r) (sym e ∙ verdict-of) (subst⁻¹ (GoalAs S S' l f k a r) b (carries-over S S₁ S' x y .refuses z))
+
+    pub goal-found : k < count → FillsHole S₁ S' l f k r → FillsGoal S S' l f k r
+    goal-found there z a st h =
+        let c = count-is a st h in
+        let b : ltb k (holes (a .tree)) ≡ true = lt-ltb k (holes (a .tree)) (omega arith) in
+        subst (FillingAs S S' l f k a r) (sym e ∙ verdict-of) (subst⁻¹ (GoalAs S S' l f k a r) b (goal-on (carries-over S S₁ S' x y) l f k a r (z a st h)))
+
+-- the hole's number is in the goal's record
+module _ (l f : List ℕ) (R : Rooms) (count k : ℕ) (old : OldRan l R count) (there : k < count) where
+  pub goal-room : 8 * k + 2 ≤ length (R .goals)
+  goal-room = omega (arith, old .goals, old .holds .goals-room)
+
+  place-of : (g : Gap) × (p : At g (old .answer .tree)) × (length (before p) ≡ k)
+  place-of = goal-place k (old .answer .tree) (omega (arith, old .goals))
+
+  term-is : wordAt (R .goals) (8 * k) ≡ place-of .0 .term
+  unfolding goalAt
+  term-is =
+      let n : 0 + length (before (place-of .1)) ≡ k = omega (arith, place-of .2) in
+      ap (λ (i : ℕ). goalAt (R .goals) i .term .0) (sym n) ∙ goal-term l R _ 0 0 (place-of .1) (old .holds .trees)
+
+  pub hole-at : (q : ℕ) → q ≡ wordAt (R .goals) (8 * k) → HoleAt l k q
+  hole-at q e =
+      record {
+        gap = place-of .0;
+        goal = record { answer = old .answer; state = old .state; accepts = old .accepts; stands = place-of .1; number = place-of .2 };
+        here = sym (e ∙ term-is);
+      }
+
+pub hole-fillable : (l f : List ℕ) (k q : ℕ) → Good purpose.Check l → Good purpose.Filling f → HoleAt l k q → Fillable l f q
+hole-fillable l f k q good fills h =
+    subst (Fillable l f) (h .here) (goal-fillable l f good fills (h .goal .answer) (h .goal .state) (h .goal .accepts) (h .gap) (h .goal .stands))
+
+-- 5. THE EDITED TABLE e
+module _ (l f : List ℕ) (k q : ℕ) (h : HoleAt l k q) (S S₁ S' : Lent) (x : ExactAll S) (y : ExactAll S₁) (e : List ℕ) (edited : Edited l f q e) (v : Verdict) (t : v ≡ edited-tests e) (r : Filled) where
+  as-goal : ((g : Gap) → GoalOf l k g → EditedAs S S' e g r (edited-tests e)) → FillsHole S S' l f k r
+  as-goal z a st c =
+      let same : h .goal .answer ≡ a = same-answer (h .goal .accepts) c in
+      subst (λ (a : Answer). Goal S S' l f k a r) same
+      (record {
+        goal = h .gap;
+        stands = h .goal .stands;
+        number = h .goal .number;
+        table = e;
+        edited = subst⁻¹ (λ (q : ℕ). Edited l f q e) (h .here) edited;
+        answer = z (h .gap) (h .goal);
+      })
+
+  pub edited-refused : (n p : ℕ) → v ≡ verdict.Refused n p → Refuses S₁ S' n p Edit r → FillsHole S S' l f k r
+  edited-refused n p w z = as-goal (λ g i. subst (EditedAs S S' e g r) (sym w ∙ t) (carries-over S S₁ S' x y .refuses z))
+
+  pub edited-run : v ≡ verdict.Passes → RunsFilling S₁ S' l k e r → FillsHole S S' l f k r
+  edited-run w z =
+      as-goal (λ g i. subst (EditedAs S S' e g r) (sym w ∙ t) (run-on (carries-over S S₁ S' x y) e g r (at-goal (termAt e (g .term)) g) (z g i)))

@@ -1,0 +1,37 @@
+// What filling a goal answers.
+ghost use Rattle.filling.specs.Fill.{lent, Refuses};
+use editing::EDITED;
+use entry::Counts;
+use entry::rooms::clear_rooms;
+use number::room::clear;
+
+// The table that a refusal's place is in.
+pub enum Which {
+    Old,
+    Filling,
+    Edit,
+}
+
+// The counts are of the filling's own records, goals and serials, and of the propositions made up to its end.
+pub enum Filled {
+    Accepted(Counts),
+    Refused(u8, u16, Which),
+}
+
+// A refusal, with all rooms emptied.
+pub fn refuse(
+    tree: &mut [u8],
+    goals: &mut [u8],
+    propositions: &mut [u8],
+    work: &mut [u8],
+    edited: &mut [u8],
+    n: u8,
+    place: u16,
+    which: Which,
+) -> Filled
+    ensures { λ r. ⌜ Refuses (lent (now (tree .entry)) (now (goals .entry)) (now (propositions .entry)) (now (work .entry)) (now (edited .entry))) (lent (now (tree .exit)) (now (goals .exit)) (now (propositions .exit)) (now (work .exit)) (now (edited .exit))) n place which r ⌝ }
+{
+    clear_rooms(tree, goals, propositions, work);
+    clear(edited, EDITED);
+    Filled::Refused(n, place, which)
+}

@@ -7,9 +7,7 @@ usage: compare.py [--original PROGRAM] [--trace PROGRAM]     all stored batches
 
 PROGRAM of --original is the built alice-run (else the variable ALICE_RUN names it). README.md has the rest."""
 import argparse
-import hashlib
 import os
-import subprocess
 import sys
 from collections import Counter
 
@@ -20,6 +18,7 @@ sys.setrecursionlimit(10000)
 
 import reference  # noqa: E402
 from ndt.show import show  # noqa: E402
+from runs import blocks, counted, digest, of_original, read_stored  # noqa: E402
 from scripts.batches import batches, drawn  # noqa: E402
 from scripts.shrink import shrunk  # noqa: E402
 
@@ -41,24 +40,7 @@ def arguments():
 
 def answers(command, tables):
     """The lines of each answer, without its number."""
-    stream = b"".join(len(data).to_bytes(4, "little") + data for data in tables)
-    run = subprocess.run(command, input=stream, stdout=subprocess.PIPE, check=True)
-    blocks = run.stdout.decode().split("\n\n")[:-1]
-    if len(blocks) != len(tables):
-        sys.exit("%s: %d answers to %d tables" % (command[0], len(blocks), len(tables)))
-    return [block.split("\n")[1:] for block in blocks]
-
-
-def of_original(lines):
-    """The original's answer as `trace` prints it, and whether document 01 wants the two to agree."""
-    notes = [line for line in lines if line.startswith("note ")]
-    lines = [line.rsplit(" |", 1)[0] if line.startswith("goal ") else line for line in lines if not line.startswith("note ")]
-    outside = any(note.startswith(("note outside", "note table-test")) for note in notes)
-    return lines, not outside and not lines[0].startswith("refused 7 ")
-
-
-def digest(parts):
-    return hashlib.sha256(b"".join(parts)).hexdigest()[:32]
+    return blocks(command, b"".join(map(counted, tables)), len(tables))
 
 
 class Comparison:
@@ -127,11 +109,6 @@ class Comparison:
         print("%d scripts, %s, %d disagreements" % (self.counts["scripts"], domain, self.counts["disagreements"]))
 
 
-def read_stored():
-    with open(STORED) as file:
-        return {name: (tables, answered) for name, tables, answered in (line.split() for line in file if not line.startswith("#"))}
-
-
 def main():
     given = arguments()
     comparison = Comparison(given)
@@ -145,7 +122,7 @@ def main():
             with open(STORED, "w") as file:
                 file.writelines(["# batch, digest of its tables, digest of their answers: README.md\n"] + lines)
     else:
-        stored = read_stored()
+        stored = read_stored(STORED)
         for name, tables in batches():
             comparison.replay(name, tables, stored.get(name))
     comparison.summary()

@@ -1,6 +1,7 @@
 // How programs read: a whole file, or tables from standard input, each after its length.
 ghost use Prim.Native.Nat.{_<_};
 ghost use Rattle.io.specs.Counts.{Counts};
+use super::arguments::text_argument;
 use libc::STDIN_FILENO;
 
 // Longer than any table that passes. Of a longer file a program reads so much: its header is there, and no count goes with such a
@@ -34,12 +35,12 @@ fn read_file(path: &[u8], room: &mut [u8]) -> isize {
 // The same of the file that argument i names.
 pub fn read_argument(i: usize, room: &mut [u8]) -> isize {
     let mut path = io::buffer();
-    let length = os::arg(i, &mut path);
-    if os::errno() != 0 {
-        os::fail(b"the file's name");
+    let got = text_argument(i, &mut path);
+    if got < 0 {
         return -1;
     }
-    read_file(&path[..length], room)
+    let n = io::count(got, &path);
+    read_file(&path[..n], room)
 }
 
 fn wide(b: u8) -> usize

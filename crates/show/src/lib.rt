@@ -4,6 +4,7 @@ ghost use Prim.Native.Nat.{_<_};
 use libc::STDOUT_FILENO;
 use table::Verdict;
 
+pub mod arguments;
 pub mod input;
 pub mod proposition;
 pub mod tree;
@@ -29,11 +30,23 @@ pub fn index(n: u16) -> usize
     n as usize
 }
 
-// `refused` with the number and the place.
-pub fn refused(n: u8, place: u16) {
+// The line before an answer whose number is `count`, where there are many.
+pub fn heading(count: u64) {
+    text(b"table ");
+    number(count);
+    text(b"\n");
+}
+
+// `refused` with the number and the place. The line's end is left to the caller.
+pub fn refusal(n: u8, place: u16) {
     text(b"refused");
     spaced(n as u16);
     spaced(place);
+}
+
+// The same as a line.
+pub fn refused(n: u8, place: u16) {
+    refusal(n, place);
     text(b"\n");
 }
 

@@ -1,18 +1,13 @@
-// An accepted table's tree and goals, record by record. A line's end is left to the caller.
-ghost use Prim.Native.Nat.{_+_, _*_, _≤_};
-ghost use lib.ListN.{length};
+// An acceptance: its counts, tree records and goals, a line each. The short form is document 01's; the whole one says in each line what the record
+// concludes or the goal wants, too, and ends with the other counts.
+use super::index;
+use super::proposition::proposition;
 use super::spaced;
 use super::text;
 use number::Serial;
 use number::record::Record;
+use number::record::record_at;
 use number::record::word;
-
-// `accepted` with the counts of records and goals.
-pub fn accepted(records: u16, goals: u16) {
-    text(b"accepted");
-    spaced(records);
-    spaced(goals);
-}
 
 fn serial(n: u16) {
     if n == Serial::NONE.0 {
@@ -22,8 +17,21 @@ fn serial(n: u16) {
     }
 }
 
-// A tree record: rule, term, both serials, premises.
-pub fn node(r: Record) {
+// What a record concludes: a proposition, or that its identifier is of a datatype.
+fn conclusion(propositions: &[u8], r: Record) {
+    text(b" | ");
+    if r.count == 0 {
+        proposition(propositions, r.b);
+    } else {
+        text(b"s");
+        super::number(r.c as u64);
+        text(b" : n");
+        super::number(r.b as u64);
+    }
+}
+
+// Rule, term, both serials, premises.
+fn record(r: Record) {
     super::number(r.kind as u64);
     spaced(r.a);
     serial(r.c);
@@ -31,12 +39,77 @@ pub fn node(r: Record) {
     spaced(r.parameters[1]);
 }
 
-// Goal i of the room: term and context length.
-pub fn goal(goals: &[u8], i: usize)
-    requires { ⌜ 8 * i + 8 ≤ length (now goals) ⌝ }
-{
-    let at = 8 * i;
-    text(b"goal");
-    spaced(word(goals, at));
-    spaced(word(goals, at + 4));
+// Record i of the tree, if the room reaches so far.
+fn node(tree: &[u8], propositions: &[u8], i: u16, whole: bool) {
+    let n = index(i);
+    if 16 * n + 16 <= tree.len() {
+        let r = record_at(tree, n);
+        record(r);
+        if whole {
+            conclusion(propositions, r);
+        }
+        text(b"\n");
+    }
+}
+
+fn nodes(tree: &[u8], propositions: &[u8], count: u16, whole: bool) {
+    let mut i = 0;
+    while i < count {
+        node(tree, propositions, i, whole);
+        i += 1;
+    }
+}
+
+// Goal i, if the room reaches so far: term and context length.
+fn goal(goals: &[u8], propositions: &[u8], i: u16, whole: bool) {
+    let n = index(i);
+    if 8 * n + 8 <= goals.len() {
+        text(b"goal");
+        spaced(word(goals, 8 * n));
+        spaced(word(goals, 8 * n + 4));
+        if whole {
+            text(b" | ");
+            proposition(propositions, word(goals, 8 * n + 2));
+        }
+        text(b"\n");
+    }
+}
+
+fn holes(goals: &[u8], propositions: &[u8], count: u16, whole: bool) {
+    let mut i = 0;
+    while i < count {
+        goal(goals, propositions, i, whole);
+        i += 1;
+    }
+}
+
+// All lines but for the last of the whole form. `records` and `open` count the tree's records and the goals.
+fn lines(tree: &[u8], goals: &[u8], propositions: &[u8], records: u16, open: u16, whole: bool) {
+    text(b"accepted");
+    spaced(records);
+    spaced(open);
+    text(b"\n");
+    nodes(tree, propositions, records, whole);
+    holes(goals, propositions, open, whole);
+}
+
+pub fn short(tree: &[u8], goals: &[u8], propositions: &[u8], records: u16, open: u16) {
+    lines(tree, goals, propositions, records, open, false);
+}
+
+pub fn whole(
+    tree: &[u8],
+    goals: &[u8],
+    propositions: &[u8],
+    records: u16,
+    open: u16,
+    serials: u16,
+    made: u16,
+) {
+    lines(tree, goals, propositions, records, open, true);
+    text(b"counts serials");
+    spaced(serials);
+    text(b" made");
+    spaced(made);
+    text(b"\n");
 }

@@ -3,6 +3,8 @@ from . import trees
 from .trees import Prop, SORRY, Term, UNIT
 from .small import TYPES
 
+NONE = 65535
+
 NAMES = (trees.X, trees.Y, trees.Z, trees.H, trees.G)
 TERM_SHAPES = {}
 for kind, names, children in (("Ident", 1, 0), ("Unit", 0, 0), ("Sorry", 0, 0), ("ProjectFst", 0, 1), ("ProjectSnd", 0, 1), ("OrLeft", 0, 1),
@@ -108,11 +110,12 @@ def unfolded(draw, roots, children):
 
 
 def reordered(draw, data):
-    """The same table with its records in another lawful order."""
+    """The same table, or filling, with its records in another lawful order."""
     p, t = word(data, 6), word(data, 8)
     props = [bytearray(data[16 + 16 * i:32 + 16 * i]) for i in range(p)]
     terms = [bytearray(data[16 + 16 * (p + i):32 + 16 * (p + i)]) for i in range(t)]
-    roots = [word(r, 2) for r in terms if r[1] == 1] + [word(data, 10)]
+    expected = [] if word(data, 10) == NONE else [word(data, 10)]
+    roots = [word(r, 2) for r in terms if r[1] == 1] + expected
     order = unfolded(draw, roots, lambda n: [word(props[n], at) for at in PROP_LINKS.get(props[n][0], ())])[::-1]
     new_prop = {old: new for new, old in enumerate(order)}
     term_order = unfolded(draw, [0], lambda n: [word(terms[n], at) for at in TERM_LINKS.get(terms[n][0], ())])
@@ -126,7 +129,8 @@ def reordered(draw, data):
         if record[1] == 1:
             put_word(record, 2, new_prop[word(record, 2)])
     head = bytearray(data[:16])
-    put_word(head, 10, new_prop[word(data, 10)])
+    for number in expected:
+        put_word(head, 10, new_prop[number])
     return bytes(head) + b"".join(props[old] for old in order) + b"".join(terms[old] for old in term_order)
 
 

@@ -1,6 +1,6 @@
 """Made propositions, up to 2,048 and past them. Three ForAlls over n leaves, opened by three functions, make 6n."""
 from .row import row
-from .shapes import ands
+from shapes import ands
 
 
 def opened(inner, leaves):

@@ -1,6 +1,6 @@
 """Document 01's numbered cases. (A filled case 13 is checked here as a table of its own.)"""
 from .row import row
-from .shapes import ands, pairs
+from shapes import ands, pairs
 
 ROWS = [
     row("case 1", "fun h. h : A -> A",

@@ -1,3 +1,4 @@
+pub mod Answers
 pub mod Rests
 pub mod Marks
 pub mod Runs

@@ -1,6 +1,6 @@
 -- From the run to the mark. Assumes nothing.
 use mathlib.Core.Path.{_≡_, refl, ap, ap₂, sym, subst, subst⁻¹, _∙_}
-use mathlib.Core.Bool.{Bool, true, false, _&&_, cond, false≢true}
+use mathlib.Core.Bool.{Bool, true, false, _&&_, cond}
 use mathlib.Core.List.{List, [], _++_}
 use Prim.Native.Nat.{ℕ, _+_, _*_, _<_, _≤_}
 use native.Mathlib.Omega.{arith}
@@ -35,6 +35,7 @@ use Rattle.entry.specs.declared.Mark.the-variants as mark
 use Rattle.entry.specs.Mark.{tree-bytes, goals-bytes, props-bytes, work-bytes, long-enough, root-run, unless-refused, table-run, outcome, Emptied, Holds, Kept, countsOf, MarkedAs, Marks}
 use Rattle.entry.specs.Rest.{Trimmed, Rest}
 use Rattle.entry.specs.Ran.{Exact, Ran, RanAs}
+use Rattle.entry.proofs.Answers.{both-true}
 use Rattle.entry.proofs.Rests.{cleared-exact, cleared-parts, cleared-front, same-record, same-goal, front-byte}
 
 -- ROOMS WITH THE SAME RECORDS AND GOALS hold the same
@@ -148,10 +149,6 @@ table-marked l R R₁ R' m e f v h =
     subst⁻¹ (λ (v : Verdict). MarkedAs l R R' (unless-refused v (root-run l)) m) v (marked-over l R R₁ R' m e f (root-run l) h)
 
 -- ROOMS OF ANY LENGTH
-both-true : (a b : Bool) → a && b ≡ true → (a ≡ true) × (b ≡ true)
-both-true true b h = (refl, h)
-both-true false b h = absurd (false≢true h)
-
 -- the first bytes of each, as many as are listed
 abbrev pub firsts : Rooms → Rooms
 firsts R = rooms (take tree-bytes (R .tree)) (take goals-bytes (R .goals)) (take props-bytes (R .props)) (take work-bytes (R .work))

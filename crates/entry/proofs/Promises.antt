@@ -40,31 +40,17 @@ use Rattle.entry.specs.declared.Counts.{Counts}
 use Rattle.entry.specs.declared.Mark.{Mark}
 use Rattle.entry.specs.declared.Mark.the-variants as mark
 use Rattle.entry.specs.Mark.{long-enough, root-run, unless-refused, table-run, outcome, countsOf, Kept, MarkedAs, Marks}
+use Rattle.entry.proofs.Answers.{is-accepted, counts-of, is-ok, table-ok}
 use Rattle.entry.specs.Promises.{Accepted, OnlyThen, AlwaysThen, Sorries, GoalsAreSorries, Agree, AgreeNode, AgreeGoal, SameTree, SameIf, TwoRunsAgree}
-
--- ANSWERS TOLD APART
-abbrev is-accepted : Mark → Bool
-is-accepted (mark.Accepted c) = true
-is-accepted (mark.Refused n p) = false
-
-abbrev counts-of : Counts → Mark → Counts
-counts-of d (mark.Accepted c) = c
-counts-of d (mark.Refused n p) = d
-
-abbrev is-ok : Out Answer → Bool
-is-ok (refused n p) = false
-is-ok (ok a st) = true
 
 -- WHAT AN ACCEPTANCE SAYS
 outcome-ok : (l : List ℕ) (R : Rooms) (a : Answer) (st : St) → outcome l R ≡ ok a st → (long-enough R ≡ true) × Good Check l × (root-run l ≡ ok a st)
-unfolding outcome unless-refused
-outcome-ok l R a st h = at (long-enough R) refl (tests Check l) refl h
+unfolding outcome
+outcome-ok l R a st h = at (long-enough R) refl h
   where
-    at : (b : Bool) → long-enough R ≡ b → (v : Verdict) → tests Check l ≡ v → cond b (unless-refused v (root-run l)) (refused 1 0) ≡ ok a st
-        → (long-enough R ≡ true) × Good Check l × (root-run l ≡ ok a st)
-    at true e verdict.Passes f h = (e, f, h)
-    at true e (verdict.Refused n p) f h = absurd (false≢true (ap is-ok h))
-    at false e v f h = absurd (false≢true (ap is-ok h))
+    at : (b : Bool) → long-enough R ≡ b → cond b (table-run l) (refused 1 0) ≡ ok a st → (long-enough R ≡ true) × Good Check l × (root-run l ≡ ok a st)
+    at true e h = let z = table-ok l a st h in (e, z .0, z .1)
+    at false e h = absurd (false≢true (ap is-ok h))
 
 record Taken (l : List ℕ) (R R' : Rooms) (c : Counts) : Type 0 where
   answer : Answer

@@ -33,6 +33,7 @@ use Rattle.marking.specs.Rooms.{Rooms}
 use Rattle.entry.specs.declared.Counts.{Counts}
 use Rattle.entry.specs.declared.Mark.{Mark}
 use Rattle.entry.specs.declared.Mark.the-variants as mark
+use Rattle.entry.proofs.Answers.{table-ok}
 use Rattle.entry.specs.Mark.{long-enough, root-run, unless-refused, table-run, outcome, countsOf, MarkedAs, Marks}
 use Rattle.filling.specs.declared.answer.Filled.{Filled}
 use Rattle.filling.specs.declared.answer.Filled.the-variants as fill
@@ -88,12 +89,6 @@ root-edited {old = old} h {e} E =
     let o = good-passed (h .old-good) in
     ap₂ (λ (t : Term) (P : Prop). run t (check (prop P)) [] start) (filled-term h E 0 (o .counted .some))
     (ap (propAt e) (expected-joined E) ∙ whole-prop h E (expected old) (expected-in (o .linked)))
-
--- AN ACCEPTED TABLE passes its tests, and the rules accept its root
-passed : (v : Verdict) (o : Out Answer) (a : Answer) (st : St) → unless-refused v o ≡ ok a st → (v ≡ verdict.Passes) × (o ≡ ok a st)
-unfolding unless-refused
-passed (verdict.Refused n p) o a st e = absurd (let z : _≡_ {A = ℕ} 0 1 = cc in omega arith)
-passed verdict.Passes o a st e = (refl, e)
 
 -- THE FRESH CHECK
 module _ {S S' : Lent} {l f : List ℕ} {k : ℕ} {a : Answer} {r : Filled} (z : Goal S S' l f k a r) (st : St) (R R' : Rooms) (m : Mark) where
@@ -193,6 +188,6 @@ filled-goal l f k S S' r a st w long e good inside =
 pub demand-3-bytes : Demand-3-bytes
 demand-3-bytes l f k Q Q' c S S' r w v inside fills long =
     let x = accepted-mark l Q Q' c w in
-    let (good, accepted) = passed (tests Check l) (root-run l) (x .answer) (x .state) (x .run) in
+    let (good, accepted) = table-ok l (x .answer) (x .state) (x .run) in
     let z = filled-goal l f k S S' r (x .answer) (x .state) v long (x .run) fills (omega (arith, ap (λ (c : Counts). c .goals) (x .counts))) in
     record { old = x; goal = z; fresh = λ R R' m h y. agrees z (x .state) R R' m good fills accepted h y }

@@ -1,7 +1,7 @@
 -- An answer in some rooms is the answer in others: in rooms of just the listed sizes, whatever they held before; and in rooms of any length, of which these are
 -- the first bytes. Assumes nothing.
-use mathlib.Core.Path.{_≡_, refl, ap, sym, subst, subst⁻¹, _∙_}
-use mathlib.Core.Bool.{Bool, true, false, _&&_, false≢true}
+use mathlib.Core.Path.{_≡_, ap, sym, subst⁻¹, _∙_}
+use mathlib.Core.Bool.{Bool, true, false, _&&_}
 use mathlib.Core.List.{List, [], _++_}
 use Prim.Native.Nat.{ℕ, min, _≤_}
 use native.Mathlib.Omega.{arith}
@@ -24,6 +24,7 @@ use Rattle.marking.specs.Rooms.{Rooms, rooms}
 use Rattle.entry.specs.Mark.{tree-bytes, goals-bytes, props-bytes, work-bytes, long-enough, table-run}
 use Rattle.entry.specs.Ran.{Exact}
 use Rattle.entry.proofs.Rests.{cleared-exact, cleared-parts, cleared-front}
+use Rattle.entry.proofs.Answers.{both-true}
 use Rattle.entry.proofs.Marks as marks
 use Rattle.filling.specs.declared.answer.Which.{Which}
 use Rattle.filling.specs.declared.answer.Which.the-variants.{Old}
@@ -84,10 +85,6 @@ firsts S = record { rooms = marks.firsts (S .rooms); edited = take edited-bytes 
 
 abbrev pub followed : Lent → Lent → Lent
 followed S' S = record { rooms = marks.followed (S' .rooms) (S .rooms); edited = S' .edited ++ drop edited-bytes (S .edited) }
-
-both-true : (a b : Bool) → a && b ≡ true → (a ≡ true) × (b ≡ true)
-both-true true b h = (refl, h)
-both-true false b h = absurd (false≢true h)
 
 module _ (S : Lent) (long : all-long S ≡ true) where
   lengths : (long-enough (S .rooms) ≡ true) × (edited-bytes ≤ length (S .edited))

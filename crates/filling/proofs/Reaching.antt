@@ -1,6 +1,6 @@
 -- The old terms run over the edited table's propositions as they ran over their own, and the goal that is asked for has its picture. Assumes nothing.
 use mathlib.Core.Path.{_≡_, ap, ap₂, sym, subst, subst⁻¹, _∙_}
-use mathlib.Core.Bool.{Bool, true, false, false≢true}
+use mathlib.Core.Bool.{false≢true}
 use mathlib.Core.List.{List, []}
 use Prim.Native.Nat.{ℕ, _+_, _*_, _<_, _≤_}
 use native.Mathlib.Omega.{arith}
@@ -49,11 +49,7 @@ use Rattle.marking.proofs.Goals.{goal-unique, picture-moved, ready-hole}
 use Rattle.entry.specs.Mark.{root-run}
 use Rattle.entry.specs.Ran.{Exact}
 use Rattle.filling.specs.Steps.{GoalOf, ReachedFor}
-use Rattle.filling.proofs.Stages.{same-answer}
-
-abbrev accepted : Out Answer → Bool
-accepted (refused n p) = false
-accepted (ok a st) = true
+use Rattle.entry.proofs.Answers.{is-ok, same-answer}
 
 -- ONE GOAL has each number
 pub goal-same : {l : List ℕ} {k : ℕ} {g g' : Gap} → GoalOf l k g → GoalOf l k g' → g ≡ g'
@@ -162,7 +158,7 @@ module _ {l f : List ℕ} {q : ℕ} {e : List ℕ} (h : Fillable l f q) (E : Edi
           where
             at : (r : Checked) → CheckedAs j R R' nothing (root-run l) r → (st : State) × Accepts j R R' nothing st (root-run l)
             at (checked.Fits st) h = (st, h)
-            at (checked.Refused n p) h = absurd (false≢true (ap accepted (sym h ∙ goal .accepts)))
+            at (checked.Refused n p) h = absurd (false≢true (ap is-ok (sym h ∙ goal .accepts)))
 
         pictured : PictureIs j (R' .props) (R' .work) (countOf j (accepts .0)) g
         pictured =

@@ -1,6 +1,6 @@
 -- The stages of a filling's answer, each from what its step found. Assumes nothing.
-use mathlib.Core.Path.{_≡_, refl, ap, sym, subst, subst⁻¹, subst₂, _∙_}
-use mathlib.Core.Bool.{Bool, true, false, true≢false, false≢true}
+use mathlib.Core.Path.{_≡_, ap, sym, subst, subst⁻¹, subst₂, _∙_}
+use mathlib.Core.Bool.{true, false, true≢false}
 use mathlib.Core.List.{List}
 use Prim.Native.Nat.{ℕ, zero, _+_, _*_, _<_, _≤_}
 use native.Mathlib.Omega.{arith}
@@ -26,7 +26,8 @@ use Rattle.marking.proofs.Goals.{goal-term, goal-place}
 use Rattle.entry.specs.declared.Counts.{Counts}
 use Rattle.entry.specs.declared.Mark.{Mark}
 use Rattle.entry.specs.declared.Mark.the-variants as mark
-use Rattle.entry.specs.Mark.{work-bytes, root-run, unless-refused, table-run, Kept, MarkedAs}
+use Rattle.entry.specs.Mark.{work-bytes, root-run, table-run, MarkedAs}
+use Rattle.entry.proofs.Answers.{is-accepted, number-of, place-of, counts-of, same-answer, table-ok}
 use Rattle.entry.proofs.Marks.{verdict-is}
 use Rattle.filling.specs.declared.answer.Which.the-variants.{Old, Filling, Edit}
 use Rattle.filling.specs.declared.answer.Filled.{Filled}
@@ -34,59 +35,23 @@ use Rattle.filling.specs.Fill.{Lent, Refuses, RunAs, EditedAs, Goal, Goa
 use Rattle.filling.specs.Steps.{ExactAll, OldRan, GoalOf, HoleAt, RunsFilling, FillsHole, FillsGoal}
 use Rattle.filling.proofs.Overs.{carries-over, run-on, goal-on, filling-on}
 
--- ANSWERS TOLD APART
-abbrev accepted : Mark → Bool
-accepted (mark.Accepted c) = true
-accepted (mark.Refused n p) = false
-
-abbrev number : Mark → ℕ
-number (mark.Accepted c) = 0
-number (mark.Refused n p) = n
-
-abbrev place : Mark → ℕ
-place (mark.Accepted c) = 0
-place (mark.Refused n p) = p
-
-abbrev goals-of : Mark → ℕ
-goals-of (mark.Accepted c) = c .goals
-goals-of (mark.Refused n p) = 0
-
-abbrev is-ok : Out Answer → Bool
-is-ok (refused n p) = false
-is-ok (ok a st) = true
-
-abbrev answered : Answer → Out Answer → Answer
-answered d (refused n p) = d
-answered d (ok a st) = a
-
-pub same-answer : {o : Out Answer} {a b : Answer} {st su : St} → o ≡ ok a st → o ≡ ok b su → a ≡ b
-same-answer {a = a} e f = ap (answered a) (sym e ∙ f)
-
 -- 2. THE OLD TABLE
-pub table-ok : (l : List ℕ) (a : Answer) (st : St) → table-run l ≡ ok a st → Good purpose.Check l × (root-run l ≡ ok a st)
-unfolding unless-refused
-table-ok l a st h = at (tests purpose.Check l) refl h
-  where
-    at : (v : Verdict) → tests purpose.Check l ≡ v → unless-refused v (root-run l) ≡ ok a st → Good purpose.Check l × (root-run l ≡ ok a st)
-    at (verdict.Refused n p) e h = absurd (false≢true (ap is-ok h))
-    at verdict.Passes e h = (e, h)
-
 module _ (l f : List ℕ) (k : ℕ) (S S₁ S' : Lent) (x : ExactAll S) (y : ExactAll S₁) (m : Mark) (r : Filled) where
   pub old-refused : (n p : ℕ) → m ≡ mark.Refused n p → (o : Out Answer) → MarkedAs l (S .rooms) (S₁ .rooms) o m → Refuses S₁ S' n p Old r → OldAs S S' l f k r o
   old-refused n p e (refused n′ p′) h z =
-      subst₂ (λ (n p : ℕ). Refuses S S' n p Old r) (ap number (sym e ∙ h .0)) (ap place (sym e ∙ h .0)) (carries-over S S₁ S' x y .refuses z)
-  old-refused n p e (ok a st) h z = absurd (true≢false (ap accepted (sym (h .0) ∙ e)))
+      subst₂ (λ (n p : ℕ). Refuses S S' n p Old r) (ap number-of (sym e ∙ h .0)) (ap place-of (sym e ∙ h .0)) (carries-over S S₁ S' x y .refuses z)
+  old-refused n p e (ok a st) h z = absurd (true≢false (ap is-accepted (sym (h .0) ∙ e)))
 
   pub old-accepted : (c : Counts) → m ≡ mark.Accepted c → (o : Out Answer) → o ≡ table-run l → MarkedAs l (S .rooms) (S₁ .rooms) o m
       → FillsGoal S₁ S' l f k r → OldAs S S' l f k r o
-  old-accepted c e (refused n p) t h z = absurd (true≢false (ap accepted (sym e ∙ h .0)))
+  old-accepted c e (refused n p) t h z = absurd (true≢false (ap is-accepted (sym e ∙ h .0)))
   old-accepted c e (ok a st) t h z = filling-on (carries-over S S₁ S' x y) l f k a r (tests purpose.Filling f) (z a st (table-ok l a st (sym t) .1))
 
 pub old-ran : (l : List ℕ) (R R₁ : Rooms) (m : Mark) (c : Counts) → m ≡ mark.Accepted c → (o : Out Answer) → o ≡ table-run l → MarkedAs l R R₁ o m → OldRan l R₁ (c .goals)
-old-ran l R R₁ m c e (refused n p) t h = absurd (true≢false (ap accepted (sym e ∙ h .0)))
+old-ran l R R₁ m c e (refused n p) t h = absurd (true≢false (ap is-accepted (sym e ∙ h .0)))
 old-ran l R R₁ m c e (ok a st) t h =
     let z = table-ok l a st (sym t) in
-    record { good = z .0; answer = a; state = st; accepts = z .1; holds = h .1 .holds; goals = ap goals-of (sym e ∙ h .0) }
+    record { good = z .0; answer = a; state = st; accepts = z .1; holds = h .1 .holds; goals = ap (λ (m : Mark). counts-of c m .goals) (sym e ∙ h .0) }
 
 -- 3. THE FILLING'S TESTS
 pub filling-good : (f work left : List ℕ) (v : Verdict) → length work ≡ work-bytes → Tested purpose.Filling f work left v → v ≡ verdict.Passes → Good purpose.Filling f
@@ -121,20 +86,20 @@ module _ (l f : List ℕ) (R : Rooms) (count k : ℕ) (old : OldRan l R count) (
   pub goal-room : 8 * k + 2 ≤ length (R .goals)
   goal-room = omega (arith, old .goals, old .holds .goals-room)
 
-  place-of : (g : Gap) × (p : At g (old .answer .tree)) × (length (before p) ≡ k)
-  place-of = goal-place k (old .answer .tree) (omega (arith, old .goals))
+  spot : (g : Gap) × (p : At g (old .answer .tree)) × (length (before p) ≡ k)
+  spot = goal-place k (old .answer .tree) (omega (arith, old .goals))
 
-  term-is : wordAt (R .goals) (8 * k) ≡ place-of .0 .term
+  term-is : wordAt (R .goals) (8 * k) ≡ spot .0 .term
   unfolding goalAt
   term-is =
-      let n : 0 + length (before (place-of .1)) ≡ k = omega (arith, place-of .2) in
-      ap (λ (i : ℕ). goalAt (R .goals) i .term .0) (sym n) ∙ goal-term l R _ 0 0 (place-of .1) (old .holds .trees)
+      let n : 0 + length (before (spot .1)) ≡ k = omega (arith, spot .2) in
+      ap (λ (i : ℕ). goalAt (R .goals) i .term .0) (sym n) ∙ goal-term l R _ 0 0 (spot .1) (old .holds .trees)
 
   pub hole-at : (q : ℕ) → q ≡ wordAt (R .goals) (8 * k) → HoleAt l k q
   hole-at q e =
       record {
-        gap = place-of .0;
-        goal = record { answer = old .answer; state = old .state; accepts = old .accepts; stands = place-of .1; number = place-of .2 };
+        gap = spot .0;
+        goal = record { answer = old .answer; state = old .state; accepts = old .accepts; stands = spot .1; number = spot .2 };
         here = sym (e ∙ term-is);
       }
 

@@ -1,0 +1,58 @@
+-- Answers told apart. Assumes nothing.
+use mathlib.Core.Path.{_≡_, refl, ap, sym, _∙_}
+use mathlib.Core.Bool.{Bool, true, false, _&&_, false≢true}
+use mathlib.Core.List.{List}
+use Prim.Native.Nat.{ℕ}
+use Rattle.rules.specs.State.{St}
+use Rattle.rules.specs.Step.{Out, refused, ok, Answer}
+use Rattle.table.specs.declared.Purpose.the-variants.{Check}
+use Rattle.table.specs.declared.Verdict.{Verdict}
+use Rattle.table.specs.declared.Verdict.the-variants as verdict
+use Rattle.table.specs.Tests.{tests}
+use Rattle.table.specs.Passing.{Good}
+use Rattle.entry.specs.declared.Counts.{Counts}
+use Rattle.entry.specs.declared.Mark.{Mark}
+use Rattle.entry.specs.declared.Mark.the-variants as mark
+use Rattle.entry.specs.Mark.{root-run, unless-refused, table-run}
+
+pub both-true : (a b : Bool) → a && b ≡ true → (a ≡ true) × (b ≡ true)
+both-true true b h = (refl, h)
+both-true false b h = absurd (false≢true h)
+
+-- MARKS
+abbrev pub is-accepted : Mark → Bool
+is-accepted (mark.Accepted c) = true
+is-accepted (mark.Refused n p) = false
+
+abbrev pub number-of : Mark → ℕ
+number-of (mark.Accepted c) = 0
+number-of (mark.Refused n p) = n
+
+abbrev pub place-of : Mark → ℕ
+place-of (mark.Accepted c) = 0
+place-of (mark.Refused n p) = p
+
+abbrev pub counts-of : Counts → Mark → Counts
+counts-of d (mark.Accepted c) = c
+counts-of d (mark.Refused n p) = d
+
+-- RUNS
+abbrev pub is-ok : Out Answer → Bool
+is-ok (refused n p) = false
+is-ok (ok a st) = true
+
+abbrev answered : Answer → Out Answer → Answer
+answered d (refused n p) = d
+answered d (ok a st) = a
+
+pub same-answer : {o : Out Answer} {a b : Answer} {st su : St} → o ≡ ok a st → o ≡ ok b su → a ≡ b
+same-answer {a = a} e f = ap (answered a) (sym e ∙ f)
+
+-- a table that is accepted passed its tests
+pub table-ok : (l : List ℕ) (a : Answer) (st : St) → table-run l ≡ ok a st → Good Check l × (root-run l ≡ ok a st)
+unfolding unless-refused
+table-ok l a st h = at (tests Check l) refl h
+  where
+    at : (v : Verdict) → tests Check l ≡ v → unless-refused v (root-run l) ≡ ok a st → Good Check l × (root-run l ≡ ok a st)
+    at (verdict.Refused n p) e h = absurd (false≢true (ap is-ok h))
+    at verdict.Passes e h = (e, h)

@@ -1,0 +1,1 @@
+"""Pictures of natural-deduction trees. See tools/README.md."""

@@ -11,7 +11,6 @@ enum-told c = search needs
 proposition-count-requires : tie.Need-proposition-count-requires
 proposition-count-requires c κs = search needs
 
--- /work/main/target/rlib/number.rlib/interface/lang/src/lib.rt:18:32
 enum-told-2 : tie.Need-enum-told-2
 enum-told-2 c = search needs
 

@@ -10,11 +10,12 @@ import sys
 from collections import Counter
 
 HERE = os.path.dirname(os.path.abspath(__file__))
-sys.path[:0] = [HERE, os.path.join(HERE, "..", "..", "tools")]
+sys.path[:0] = [HERE, os.path.join(HERE, "..", "..", "tools"), os.path.join(HERE, "..", "scripts")]
 
 from ndt.script import assemble  # noqa: E402
 from reference import answer  # noqa: E402
 from rows import ROWS  # noqa: E402
+from stored import settle  # noqa: E402
 
 PROGRAM = os.path.join(HERE, "..", "..", "crates", "replay_tables")
 STDIN = os.path.join(PROGRAM, "stdin")
@@ -53,20 +54,6 @@ def faults(tables):
             yield "%s: %d rows have this label" % (label, times)
 
 
-def differ(path, data):
-    """Whether the file is missing or holds something else."""
-    try:
-        with open(path, "rb") as file:
-            return file.read() != data
-    except FileNotFoundError:
-        return True
-
-
-def write(path, data):
-    with open(path, "wb") as file:
-        file.write(data)
-
-
 def main():
     if sys.argv[1:] not in ([], ["--check"]):
         sys.exit(__doc__)
@@ -76,13 +63,7 @@ def main():
         sys.exit("\n".join(found))
     answers = "".join(row.answer + "\n" for row in ROWS)
     files = {STDIN: stream(tables), STDOUT: answers.encode(), INDEX: index().encode()}
-    if sys.argv[1:] == ["--check"]:
-        old = [path for path, data in files.items() if differ(path, data)]
-        if old:
-            sys.exit("not what make.py writes: " + ", ".join(old))
-    else:
-        for path, data in files.items():
-            write(path, data)
+    settle(files, sys.argv[1:] == ["--check"])
     print("%d tables" % len(ROWS))
 
 

@@ -9,13 +9,14 @@ import os
 import sys
 
 HERE = os.path.dirname(os.path.abspath(__file__))
-sys.path[:0] = [HERE, os.path.join(HERE, "..", "..", "tools")]
+sys.path[:0] = [HERE, os.path.join(HERE, "..", "..", "tools"), os.path.join(HERE, "..", "scripts")]
 
 import model  # noqa: E402
 from examples import EXAMPLES, NAMES, NEW  # noqa: E402
 from machine import LATEST, Machine, encoded  # noqa: E402
 from ndt.notation import Names, Parser, line_tokens  # noqa: E402
 from ndt.script import assemble, end_of  # noqa: E402
+from stored import settle  # noqa: E402
 
 PROGRAM = os.path.join(HERE, "..", "..", "crates", "worked")
 STDIN = os.path.join(PROGRAM, "stdin")
@@ -83,28 +84,12 @@ def written(example):
     return head + number(len(commands)) + b"".join(map(encoded, commands)), "".join(line + "\n" for line in answers)
 
 
-def differ(path, data):
-    """Whether the file is missing or holds something else."""
-    try:
-        with open(path, "rb") as file:
-            return file.read() != data
-    except FileNotFoundError:
-        return True
-
-
 def main():
     if sys.argv[1:] not in ([], ["--check"]):
         sys.exit(__doc__)
     pairs = [written(example) for example in EXAMPLES]
     files = {STDIN: number(len(pairs)) + b"".join(pair[0] for pair in pairs), STDOUT: "".join(pair[1] for pair in pairs).encode()}
-    if sys.argv[1:] == ["--check"]:
-        old = [path for path, data in files.items() if differ(path, data)]
-        if old:
-            sys.exit("not what make.py writes: " + ", ".join(old))
-    else:
-        for path, data in files.items():
-            with open(path, "wb") as file:
-                file.write(data)
+    settle(files, sys.argv[1:] == ["--check"])
     print("%d examples" % len(pairs))
 
 

@@ -32,6 +32,10 @@ extern "C" {
 #define SPOREKETTLE_EDITED 49152   /* sporekettle_fill only */
 #define SPOREKETTLE_TEST_WORK 2048 /* the work room of the two tests */
 
+/* THE STACK that a call may need at most, in bytes. Calls nest with the depth of a term, which is at most 64; the deepest script known takes less than half of
+ * this. It is measured and tested, but not proved. */
+#define SPOREKETTLE_STACK 262144
+
 /* THE ANSWER, 16 bytes at the beginning of the answer room. Numbers of 16 bits stand low byte first.
  *
  *   byte  0   SPOREKETTLE_ACCEPTED or SPOREKETTLE_REFUSED

@@ -17,7 +17,7 @@ use Rattle.table.specs.Reading.{binders, propAt, termAt}
 use Rattle.table.specs.Passing.{Directed}
 use Rattle.table.proofs.Counting.{nodes-root}
 use Rattle.table.proofs.Passing.{good-passed}
-use Rattle.editing.specs.Edited.{all-props, all-terms, termBytes, Fillable, Joined, Edited}
+use Rattle.editing.specs.Edited.{all-props, all-terms, termBytes, Bytes, Fillable, Joined, Edited}
 use Rattle.editing.proofs.Joins.{props-joined, terms-joined, prop-cases, term-cases}
 use Rattle.editing.proofs.Propositions.{binders-kept, prop-kept}
 use Rattle.editing.proofs.Edits.{waiting-term, filling-nodes}
@@ -45,9 +45,6 @@ module _ {old f : List ℕ} {q : ℕ} {r r′ : Record} {e j : List ℕ} (E : Jo
   joined-props d = props-alike e j d (joined-counts .0) joined-records
 
 -- THE SAME BYTES
-abbrev pub Bytes : List ℕ → Type 0
-Bytes l = (i : ℕ) → getD l i 0 < 256
-
 module _ (l l′ : List ℕ) (bytes : Bytes l) (bytes′ : Bytes l′) where
   -- a record's eight words
   word-alike : (n w : ℕ) → w < 8 → recordAt l n ≡ recordAt l′ n → wordAt l (16 * n + 2 * w) ≡ wordAt l′ (16 * n + 2 * w)

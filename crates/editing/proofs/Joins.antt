@@ -21,7 +21,7 @@ use Rattle.editing.specs.Edited.{new-prop, new-term, moved-prop, moved-t
 use Rattle.editing.proofs.Moves.{all-so, hit-moved, prop-links-moved, term-links-moved, annotation-moved, prop-form-moved, term-form-moved}
 
 -- below a bound, or so much above it
-below-or : (n b c : ℕ) → n < b + c → (n < b) ⊎ ((j : ℕ) × (j < c) × (n ≡ b + j))
+pub below-or : (n b c : ℕ) → n < b + c → (n < b) ⊎ ((j : ℕ) × (j < c) × (n ≡ b + j))
 below-or n b c h = at (ltb n b) refl
   where
     at : (x : Bool) → ltb n b ≡ x → (n < b) ⊎ ((j : ℕ) × (j < c) × (n ≡ b + j))

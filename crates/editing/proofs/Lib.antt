@@ -8,3 +8,4 @@ pub mod Edits
 pub mod Alike
 pub mod Fields
 pub mod Rows
+pub mod Renumbered

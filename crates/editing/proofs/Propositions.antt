@@ -24,10 +24,10 @@ use Rattle.editing.proofs.Moves.{hit-moved, hits-none, prop-links-moved
 use Rattle.editing.proofs.Joins.{props-joined, prop-cases}
 
 -- A SEARCH over more numbers, of which the new ones do not pass
-never : (b : Bool) → b ≡ true → b ≡ false → ⊥
+pub never : (b : Bool) → b ≡ true → b ≡ false → ⊥
 never b x y = let z : _≡_ {A = ℕ} 0 1 = cc in omega arith
 
-least-only : (t : ℕ → Bool) (i j : ℕ) → t i ≡ true → t j ≡ true → ((m : ℕ) → m < i → t m ≡ false) → ((m : ℕ) → m < j → t m ≡ false) → i ≡ j
+pub least-only : (t : ℕ → Bool) (i j : ℕ) → t i ≡ true → t j ≡ true → ((m : ℕ) → m < i → t m ≡ false) → ((m : ℕ) → m < j → t m ≡ false) → i ≡ j
 least-only t i j x y a b = at (ltb i j) refl (ltb j i) refl
   where
     at : (c : Bool) → ltb i j ≡ c → (d : Bool) → ltb j i ≡ d → i ≡ j

@@ -94,8 +94,12 @@ pub record Fillable (old f : List ℕ) (q : ℕ) : Type 0 where
   pub inside : q < terms old
   pub gap : kind-of (termRecord old q .kind) ≡ Sorry
 
--- e IS THE OLD TABLE JOINED WITH THE FILLING f, but with the record r for its term q. For a term q of the old table this settles every byte of e: the header is
--- record 0, and each record after it is one of those named here
+-- A list OF BYTES, as any slice of them is
+abbrev pub Bytes : List ℕ → Type 0
+Bytes l = (i : ℕ) → getD l i 0 < 256
+
+-- e IS THE OLD TABLE JOINED WITH THE FILLING f, but with the record r for its term q. For a term q of the old table this settles every byte of a list e of bytes: the
+-- header is record 0, and each record after it is one of those named here
 pub record Joined (old f : List ℕ) (q : ℕ) (r : Record) (e : List ℕ) : Type 0 where
   pub size : length e ≡ edited-size old f
   pub head : recordAt e 0 ≡ recounted (all-props old f) (all-terms old f) (recordAt old 0)

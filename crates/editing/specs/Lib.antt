@@ -1,2 +1,3 @@
 pub mod Edited
 pub mod Copied
+pub mod Renumbered

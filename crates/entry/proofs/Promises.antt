@@ -20,7 +20,7 @@ use Rattle.rules.specs.State.{St}
 use Rattle.rules.specs.Term.{sorries}
 use Rattle.rules.specs.Tree.{Node, Gap, Trees, end, gap, node, goals, records, holes}
 use Rattle.rules.specs.Step.{Out, refused, ok, Answer}
-use Rattle.rules.specs.Filling.{before, after}
+use Rattle.rules.specs.Filling.{At, before, after}
 use Rattle.rules.proofs.Goals.{goals-in-order, goals-at}
 use Rattle.rules.proofs.Spent.{holes-goals}
 use Rattle.table.specs.declared.Purpose.the-variants.{Check}
@@ -39,7 +39,7 @@ use Rattle.marking.proofs.Goals.{goal-place, goal-term}
 use Rattle.entry.specs.declared.Counts.{Counts}
 use Rattle.entry.specs.declared.Mark.{Mark}
 use Rattle.entry.specs.declared.Mark.the-variants as mark
-use Rattle.entry.specs.Mark.{long-enough, root-run, unless-refused, table-run, outcome, countsOf, Kept, MarkedAs, Marks}
+use Rattle.entry.specs.Mark.{long-enough, root-run, unless-refused, table-run, outcome, countsOf, Holds, Kept, MarkedAs, Marks}
 use Rattle.entry.proofs.Answers.{is-accepted, counts-of, is-ok, table-ok}
 use Rattle.entry.specs.Promises.{Accepted, OnlyThen, AlwaysThen, Sorries, GoalsAreSorries, Agree, AgreeNode, AgreeGoal, SameTree, SameIf, TwoRunsAgree}
 
@@ -76,15 +76,19 @@ always-then l R R' m h c a =
     ap (λ (b : Bool). cond b (table-run l) (refused 1 0)) (a .long) ∙ ap (λ (v : Verdict). unless-refused v (root-run l)) (a .good) ∙ a .accepts in
     subst (λ (o : Out Answer). MarkedAs l R R' o m) is h .0 ∙ ap mark.Accepted (sym (a .counts))
 
--- GOALS. The i-th goal's record has the i-th gap's term
+-- GOALS. Among the gaps' terms, from left to right, a gap's own has its number
+pub gap-term : {g : Gap} {ts : Trees} (p : At g ts) → getD (map (λ (g : Gap). g .term) (goals ts)) (length (before p)) 0 ≡ g .term
+gap-term {g} {ts} p =
+    let n : ℕ = length (before p) in
+    ap (λ (t : List Gap). getD (map (λ g. g .term) t) n 0) (goals-at p) ∙ ap (λ (t : List ℕ). getD t n 0) (map-append (λ g. g .term) (before p) (g ∷ after p))
+    ∙ getD-at (map (λ g. g .term) (before p)) (g .term) (map (λ g. g .term) (after p)) 0 n (length-map (before p) (λ (g : Gap). g .term))
+
+-- and the i-th goal's record has the i-th of them
 goal-terms : (l : List ℕ) (R : Rooms) (c : ℕ) (ts : Trees) → TreesAre l R c 0 0 ts → (i : ℕ) → i < holes ts → goalAt (R .goals) i .term .0 ≡ getD (map (λ g. g .term) (goals ts)) i 0
 goal-terms l R c ts h i k =
     let x = goal-place i ts k in
     let n : 0 + length (before (x .1)) ≡ i = omega (arith, x .2) in
-    let there : length (map (λ (g : Gap). g .term) (before (x .1))) ≡ i = length-map (before (x .1)) (λ (g : Gap). g .term) ∙ x .2 in
-    ap (λ (j : ℕ). goalAt (R .goals) j .term .0) (sym n) ∙ goal-term l R c 0 0 (x .1) h
-    ∙ sym (ap (λ (t : List Gap). getD (map (λ g. g .term) t) i 0) (goals-at (x .1)) ∙ ap (λ (t : List ℕ). getD t i 0) (map-append (λ g. g .term) (before (x .1)) (x .0 ∷ after (x .1)))
-    ∙ getD-at (map (λ g. g .term) (before (x .1))) (x .0 .term) (map (λ g. g .term) (after (x .1))) 0 i there)
+    ap (λ (j : ℕ). goalAt (R .goals) j .term .0) (sym n) ∙ goal-term l R c 0 0 (x .1) h ∙ sym (gap-term (x .1)) ∙ ap (λ (j : ℕ). getD (map (λ g. g .term) (goals ts)) j 0) (x .2)
 
 pub goals-are-sorries : GoalsAreSorries
 goals-are-sorries l R R' c h =
@@ -206,6 +210,15 @@ module _ (l : List ℕ) (R S : Rooms) (c d : ℕ) where
       at true f y z = y lo (ltb-true i _ f)
       at false f y z = z (ltb-false i _ f) (omega arith)
 
+-- so do the rooms after one answer of the rules, whatever else its counts say
+pub same-tree : (l : List ℕ) (R S : Rooms) (a : Answer) (s t : St) (c : Counts) → c .records ≡ records (a .tree) → c .goals ≡ holes (a .tree) → Holds l R a s → Holds l S a t → SameTree l R S c
+same-tree l R S a s t c e f h k =
+    record {
+      tree = λ i x. nodes-agree l R S _ _ 0 0 (a .tree) (h .trees) (k .trees) i (omega arith) (omega arith);
+      goals = λ i x. goals-agree l R S _ _ 0 0 (a .tree) (h .trees) (k .trees) i (omega arith) (omega arith);
+      table = λ i x. h .table i x ∙ sym (k .table i x);
+    }
+
 -- TWO RUNS
 same-outcome : (l : List ℕ) (R S : Rooms) → long-enough R ≡ long-enough S → outcome l R ≡ outcome l S
 unfolding outcome
@@ -213,15 +226,8 @@ same-outcome l R S e = ap (λ (b : Bool). cond b (table-run l) (refused 1 0)) e
 
 as-marked : (l : List ℕ) (R R' S S' : Rooms) (m n : Mark) (o : Out Answer) → MarkedAs l R R' o m → MarkedAs l S S' o n → (m ≡ n) × SameIf l R' S' m
 as-marked l R R' S S' m n (refused k p) h z = (h .0 ∙ sym (z .0), subst⁻¹ (SameIf l R' S') (h .0) tt)
-as-marked l R R' S S' m n (ok a st) h z = (
-  h .0 ∙ sym (z .0),
-  subst⁻¹ (SameIf l R' S') (h .0)
-      record {
-        tree = λ i k. nodes-agree l R' S' _ _ 0 0 (a .tree) (h .1 .holds .trees) (z .1 .holds .trees) i (omega arith) (omega arith);
-        goals = λ i k. goals-agree l R' S' _ _ 0 0 (a .tree) (h .1 .holds .trees) (z .1 .holds .trees) i (omega arith) (omega arith);
-        table = λ i k. h .1 .holds .table i k ∙ sym (z .1 .holds .table i k);
-      },
-)
+as-marked l R R' S S' m n (ok a st) h z =
+    (h .0 ∙ sym (z .0), subst⁻¹ (SameIf l R' S') (h .0) (same-tree l R' S' a st st (countsOf a st) refl refl (h .1 .holds) (z .1 .holds)))
 
 pub two-runs-agree : TwoRunsAgree
 two-runs-agree l R R' S S' m n h z e = as-marked l R R' S S' m n (outcome l R) h (subst⁻¹ (λ (o : Out Answer). MarkedAs l S S' o n) (same-outcome l R S e) z)

@@ -5,3 +5,4 @@ pub mod Reaching
 pub mod Running
 pub mod Finishing
 pub mod Agree
+pub mod Promises

@@ -54,6 +54,7 @@ module _ {S S' T T' : Lent} (c : Carries S S' T T') where
         stands = z .stands;
         number = z .number;
         table = z .table;
+        bytes = z .bytes;
         edited = z .edited;
         answer = edited-on (z .table) (z .goal) r (edited-tests (z .table)) (z .answer);
       }

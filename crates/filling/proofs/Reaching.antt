@@ -26,10 +26,10 @@ use Rattle.table.specs.Reading.{propAt, termAt}
 use Rattle.table.proofs.Counting.{nodes-root}
 use Rattle.table.proofs.Links.{expected-in}
 use Rattle.table.proofs.Passing.{Passed, good-passed}
-use Rattle.editing.specs.Edited.{termBytes, all-props, all-terms, Fillable, Joined, Edited}
+use Rattle.editing.specs.Edited.{termBytes, all-props, all-terms, Bytes, Fillable, Joined, Edited}
 use Rattle.editing.proofs.Joins.{props-joined, terms-joined, expected-joined}
 use Rattle.editing.proofs.Edits.{stays, replaces, whole-prop, whole-counted, whole-formed, whole-directed, waiting-term, edited-in-order}
-use Rattle.editing.proofs.Alike.{joined-counts, joined-props, Bytes, edited-unique, hole-nodes}
+use Rattle.editing.proofs.Alike.{joined-counts, joined-props, edited-unique, hole-nodes}
 use Rattle.editing.proofs.Rows.{joined-inside, joined-put}
 use Rattle.prop.specs.Room.{roomAt, Arena}
 use Rattle.prop.proofs.Rooms.{room-same, arena-less}

@@ -18,7 +18,7 @@ use Rattle.table.specs.declared.Verdict.the-variants as verdict
 use Rattle.table.specs.Tests.{tests, Tested}
 use Rattle.table.specs.Passing.{Good}
 use Rattle.table.specs.Reading.{termAt}
-use Rattle.editing.specs.Edited.{Fillable, Edited, edited-tests}
+use Rattle.editing.specs.Edited.{Bytes, Fillable, Edited, edited-tests}
 use Rattle.editing.proofs.Edits.{goal-fillable}
 use Rattle.marking.specs.Rooms.{Rooms}
 use Rattle.marking.specs.Trees.{goalAt}
@@ -108,7 +108,7 @@ hole-fillable l f k q good fills h =
     subst (Fillable l f) (h .here) (goal-fillable l f good fills (h .goal .answer) (h .goal .state) (h .goal .accepts) (h .gap) (h .goal .stands))
 
 -- 5. THE EDITED TABLE e
-module _ (l f : List ℕ) (k q : ℕ) (h : HoleAt l k q) (S S₁ S' : Lent) (x : ExactAll S) (y : ExactAll S₁) (e : List ℕ) (edited : Edited l f q e) (v : Verdict) (t : v ≡ edited-tests e) (r : Filled) where
+module _ (l f : List ℕ) (k q : ℕ) (h : HoleAt l k q) (S S₁ S' : Lent) (x : ExactAll S) (y : ExactAll S₁) (e : List ℕ) (bytes : Bytes e) (edited : Edited l f q e) (v : Verdict) (t : v ≡ edited-tests e) (r : Filled) where
   as-goal : ((g : Gap) → GoalOf l k g → EditedAs S S' e g r (edited-tests e)) → FillsHole S S' l f k r
   as-goal z a st c =
       let same : h .goal .answer ≡ a = same-answer (h .goal .accepts) c in
@@ -118,6 +118,7 @@ module _ (l f : List ℕ) (k q : ℕ) (h : HoleAt l k q) (S S₁ S' : Lent) (x :
         stands = h .goal .stands;
         number = h .goal .number;
         table = e;
+        bytes = bytes;
         edited = subst⁻¹ (λ (q : ℕ). Edited l f q e) (h .here) edited;
         answer = z (h .gap) (h .goal);
       })

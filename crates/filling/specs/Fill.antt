@@ -16,7 +16,7 @@ use Rattle.table.specs.declared.Verdict.{Verdict}
 use Rattle.table.specs.declared.Verdict.the-variants as verdict
 use Rattle.table.specs.Tests.{tests}
 use Rattle.table.specs.Reading.{termAt}
-use Rattle.editing.specs.Edited.{edited-bytes, Edited, edited-tests}
+use Rattle.editing.specs.Edited.{edited-bytes, Bytes, Edited, edited-tests}
 use Rattle.marking.specs.Rooms.{Rooms, rooms}
 use Rattle.entry.specs.declared.Counts.{Counts}
 use Rattle.entry.specs.Mark.{long-enough, table-run, Emptied, Kept}
@@ -62,12 +62,14 @@ abbrev pub EditedAs : (S S' : Lent) → (e : List ℕ) → Gap → Filled → Ve
 EditedAs S S' e g r (verdict.Refused n p) = Refuses S S' n p Edit r
 EditedAs S S' e g r verdict.Passes = RunAs S S' e g r (at-goal (termAt e (g .term)) g)
 
--- 4. THE GOAL k of the old run, if there is one: g, which stands at p with k goals before it
+-- 4. THE GOAL k of the old run, if there is one: g, which stands at p with k goals before it; and the table edited at its Sorry record, of which there is but
+-- one that is a list of bytes
 pub record Goal (S S' : Lent) (l f : List ℕ) (k : ℕ) (a : Answer) (r : Filled) : Type 0 where
   pub goal : Gap
   pub stands : At goal (a .tree)
   pub number : length (before stands) ≡ k
   pub table : List ℕ
+  pub bytes : Bytes table
   pub edited : Edited l f (goal .term) table
   pub answer : EditedAs S S' table goal r (edited-tests table)
 

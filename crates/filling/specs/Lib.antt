@@ -1,3 +1,4 @@
 pub mod Fill
 pub mod Steps
 pub mod Agree
+pub mod Promises

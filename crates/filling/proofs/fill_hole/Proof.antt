@@ -9,7 +9,7 @@ use Rattle.editing.specs.Edited.{Edited}
 use Rattle.editing.proofs.Edits.{both-tested, edited-in-order, edited-good}
 use Rattle.filling.specs.Fill.{lent}
 use Rattle.filling.specs.Steps.{ExactAll}
-use Rattle.filling.proofs.Parts.{room-long, part-fits, part-is}
+use Rattle.filling.proofs.Parts.{room-long, part-fits, part-is, bytes-take}
 use Rattle.filling.proofs.Stages.{edited-refused, edited-run}
 use borrow.Author.Needs.{needs}
 use Rattle.filling.proofs.fill_hole.Statement.{statement}
@@ -91,6 +91,7 @@ returns c =
     let size = c .before .before .before .before .before .before .before .before .before .before .before .before .before .before .before .before .before .before .before .before .before .before .before .before .before .before .before .before .edited-size in
     let fit : size .result ≤ length (s .args .edited .now) = omega (arith, size .ensures .1, x .edited) in
     let edit = c .before .before .before .before .before .before .before .before .before .before .before .before .before .before .before .before .before .before .before .before .before .before .before .before .before .before .edit in
+    let bytes = bytes-take (size .result) (edit .last .1 .1 .1 .0 ++ drop (size .result) (s .args .edited .now)) (λ i. omega (arith, c .before .before .before .before .before .before .before .before .before .before .before .before .before .before .before .before .before .before .before .before .before .before .before .before .slice-known6 .given i)) in
     let part = part-is (size .result) (s .args .edited .now) (edit .last .1 .1 .1 .0) fit (edit .kept .1 .1 .1 .0) in
     let E : Edited (s .args .old .now) (s .args .filling .now) (s .args .hole .0) (take (size .result) (edit .last .1 .1 .1 .0 ++ drop (size .result) (s .args .edited .now))) =
     subst⁻¹ (Edited (s .args .old .now) (s .args .filling .now) (s .args .hole .0)) part (edit .ensures) in
@@ -100,7 +101,7 @@ returns c =
       rooms = record { tree = x .rooms .tree; goals = x .rooms .goals; props = x .rooms .props; work = tested .kept .1 .0 ∙ x .rooms .work };
       edited = room-long (size .result) (s .args .edited .now) (edit .last .1 .1 .1 .0) fit (edit .kept .1 .1 .1 .0) ∙ x .edited;
     } in
-    edited-refused (s .args .old .now) (s .args .filling .now) (s .args .goal) (s .args .hole .0) (s .pre .1 .0) (lent (s .args .tree .now) (s .args .goals .now) (s .args .propositions .now) (s .args .work .now) (s .args .edited .now)) _ _ x y _ E (tested .result) (tested .ensures) _ _ _ (c .before .before .before .before .before .before .before .before .before .before .before .before .before .before .before .before .before .n .given .1) (c .before .before .before .before .before .before .before .before .before .before .refuse .ensures)
+    edited-refused (s .args .old .now) (s .args .filling .now) (s .args .goal) (s .args .hole .0) (s .pre .1 .0) (lent (s .args .tree .now) (s .args .goals .now) (s .args .propositions .now) (s .args .work .now) (s .args .edited .now)) _ _ x y _ bytes E (tested .result) (tested .ensures) _ _ _ (c .before .before .before .before .before .before .before .before .before .before .before .before .before .before .before .before .before .n .given .1) (c .before .before .before .before .before .before .before .before .before .before .refuse .ensures)
 
 enum-told : tie.Need-enum-told
 enum-told c = search needs
@@ -155,6 +156,7 @@ returns-2 c =
     let size = c .before .before .before .before .before .before .before .before .before .before .before .before .before .before .before .before .before .before .before .before .before .before .before .before .before .before .before .edited-size in
     let fit : size .result ≤ length (s .args .edited .now) = omega (arith, size .ensures .1, x .edited) in
     let edit = c .before .before .before .before .before .before .before .before .before .before .before .before .before .before .before .before .before .before .before .before .before .before .before .before .before .edit in
+    let bytes = bytes-take (size .result) (edit .last .1 .1 .1 .0 ++ drop (size .result) (s .args .edited .now)) (λ i. omega (arith, c .before .before .before .before .before .before .before .before .before .before .before .before .before .before .before .before .before .before .before .before .before .before .before .slice-known6 .given i)) in
     let part = part-is (size .result) (s .args .edited .now) (edit .last .1 .1 .1 .0) fit (edit .kept .1 .1 .1 .0) in
     let E : Edited (s .args .old .now) (s .args .filling .now) (s .args .hole .0) (take (size .result) (edit .last .1 .1 .1 .0 ++ drop (size .result) (s .args .edited .now))) =
     subst⁻¹ (Edited (s .args .old .now) (s .args .filling .now) (s .args .hole .0)) part (edit .ensures) in
@@ -164,7 +166,7 @@ returns-2 c =
       rooms = record { tree = x .rooms .tree; goals = x .rooms .goals; props = x .rooms .props; work = tested .kept .1 .0 ∙ x .rooms .work };
       edited = room-long (size .result) (s .args .edited .now) (edit .last .1 .1 .1 .0) fit (edit .kept .1 .1 .1 .0) ∙ x .edited;
     } in
-    edited-run (s .args .old .now) (s .args .filling .now) (s .args .goal) (s .args .hole .0) (s .pre .1 .0) (lent (s .args .tree .now) (s .args .goals .now) (s .args .propositions .now) (s .args .work .now) (s .args .edited .now)) _ _ x y _ E (tested .result) (tested .ensures) _ (c .before .before .before .before .before .before .before .before .before .before .before .before .before .before .before .before .enum-told .given .1)
+    edited-run (s .args .old .now) (s .args .filling .now) (s .args .goal) (s .args .hole .0) (s .pre .1 .0) (lent (s .args .tree .now) (s .args .goals .now) (s .args .propositions .now) (s .args .work .now) (s .args .edited .now)) _ _ x y _ bytes E (tested .result) (tested .ensures) _ (c .before .before .before .before .before .before .before .before .before .before .before .before .before .before .before .before .enum-told .given .1)
     (c .before .before .before .before .before .before .before .before .before .before .run-filling .ensures)
 
 pub fill-hole-spec : {M : Type 1} → statement M

@@ -1,0 +1,140 @@
+//! What has been tried so far.
+
+use crate::bench::Outcome;
+use crate::input::{Entry, Input, ANSWER};
+use plain::Answer;
+
+#[derive(Default)]
+pub struct Counts {
+    pub inputs: u64,
+    accepted: [u64; 4],
+    refused: [[u64; 4]; 32],
+    goals: u64,
+    short: u64,
+    no_answer: u64,
+    twice: u64,
+    demanded: u64,
+    /// How often each rule stood in an accepted tree, and how many trees were how long.
+    rules: [u64; 17],
+    lengths: [u64; 5],
+    made: u64,
+}
+
+const RULES: [&str; 17] = [
+    "Ident",
+    "TrueIntro",
+    "AndIntro",
+    "AndElimFst",
+    "AndElimSnd",
+    "ImplIntro",
+    "ImplElim",
+    "OrIntroFst",
+    "OrIntroSnd",
+    "OrElim",
+    "FalsumElim",
+    "ForAllIntro",
+    "ForAllElim",
+    "ExistsIntro",
+    "ExistsElim",
+    "Sorry",
+    "AlphaEq",
+];
+
+/// Numbers that no answer has: some are not used, and 16 is never given.
+const NEVER: [usize; 9] = [0, 8, 9, 16, 17, 18, 19, 28, 29];
+
+impl Counts {
+    /// Counts an input that went well. `tree` has the records of an acceptance.
+    pub fn add(&mut self, input: &Input, outcome: &Outcome, tree: &[u8]) {
+        self.inputs += 1;
+        self.short += u64::from(input.short());
+        if input.answer < ANSWER {
+            self.no_answer += 1;
+            return;
+        }
+        self.twice += u64::from(input.twice);
+        self.demanded += u64::from(outcome.demanded);
+        let entry = input.entry as usize;
+        match outcome.answer {
+            Answer::Accepted(counts) => {
+                self.accepted[entry] += 1;
+                self.goals += u64::from(counts.goals > 0);
+                self.made += u64::from(counts.made > 0);
+                self.add_tree(tree);
+            }
+            Answer::Refused { number, .. } => {
+                self.refused[usize::from(number) % 32][entry] += 1;
+            }
+        }
+    }
+
+    fn add_tree(&mut self, tree: &[u8]) {
+        for record in tree.chunks(16) {
+            self.rules[usize::from(record[0]) % RULES.len()] += 1;
+        }
+        let length = match tree.len() / 16 {
+            0 => return,
+            1 => 0,
+            2..=7 => 1,
+            8..=31 => 2,
+            32..=127 => 3,
+            _ => 4,
+        };
+        self.lengths[length] += 1;
+    }
+
+    /// How often each rule came up, and how long the trees were.
+    pub fn trees(&self) -> String {
+        let rules: Vec<String> = RULES
+            .iter()
+            .zip(self.rules)
+            .map(|(rule, many)| format!("{rule} {many}"))
+            .collect();
+        let [one, few, some, many, most] = self.lengths;
+        format!(
+            "rules in accepted trees: {}\ntrees of 1 record: {one}, up to 7: {few}, up to 31: {some}, up to 127: \
+             {many}, more: {most}; {} with made propositions\n",
+            rules.join(", "),
+            self.made
+        )
+    }
+
+    /// A row for each number that can be given, and how often each entry gave it.
+    pub fn table(&self) -> String {
+        let row = |name: String, of: &[u64; 4]| {
+            format!(
+                "{name:>8} {:>10} {:>10} {:>10} {:>12}\n",
+                of[0], of[1], of[2], of[3]
+            )
+        };
+        let heads = ["check", "fill", "test_table", "test_filling"];
+        let mut table = format!(
+            "{:>8} {:>10} {:>10} {:>10} {:>12}\n",
+            "", heads[0], heads[1], heads[2], heads[3]
+        );
+        table += &row("accepted".to_string(), &self.accepted);
+        for (number, of) in self.refused.iter().enumerate() {
+            if of.iter().sum::<u64>() > 0 || !NEVER.contains(&number) {
+                table += &row(number.to_string(), of);
+            }
+        }
+        table
+    }
+
+    pub fn line(&self) -> String {
+        let checks = Entry::Check as usize;
+        let refused: u64 = self.refused.iter().map(|of| of[checks]).sum();
+        format!(
+            "{} inputs, {} of {} checks accepted, {} acceptances with goals, {} with a short room, {} with a short \
+             answer room, {} run twice, {} fillings held against a check",
+            self.inputs,
+            self.accepted[checks],
+            self.accepted[checks] + refused,
+            self.goals,
+            self.short,
+            self.no_answer,
+            self.twice,
+            self.demanded
+        )
+    }
+}

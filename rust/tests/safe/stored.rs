@@ -1,5 +1,7 @@
 //! Whole answers to the stored tests. After each call every room is looked at.
 
+use std::thread;
+
 use sporekettle::{check, fill, test_filling, test_table, Refusal, Which, TEST_WORK};
 
 use crate::input::{expected, tables, Input};
@@ -61,8 +63,7 @@ fn tables_get_their_verdicts() {
     compare(&got, &expected("replay_tables"));
 }
 
-#[test]
-fn scripts_get_their_marks() {
+fn marks() -> String {
     let mut input = Input::of("trace");
     let mut got = String::new();
     for n in 0.. {
@@ -71,7 +72,21 @@ fn scripts_get_their_marks() {
         }
         got += &format!("table {n}\n{}\n", checked(&input.table()));
     }
-    compare(&got, &expected("trace"));
+    got
+}
+
+#[test]
+fn scripts_get_their_marks() {
+    compare(&marks(), &expected("trace"));
+}
+
+/// The library keeps nothing between calls, so threads with rooms of their own go undisturbed.
+#[test]
+fn threads_do_not_disturb_each_other() {
+    let threads: Vec<_> = (0..4).map(|_| thread::spawn(marks)).collect();
+    for thread in threads {
+        compare(&thread.join().expect("all marks"), &expected("trace"));
+    }
 }
 
 #[test]

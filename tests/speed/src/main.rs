@@ -8,7 +8,11 @@ use std::time::{Duration, Instant};
 use sporekettle::{GOALS, PROPOSITIONS, TREE, WORK};
 
 /// Scripts by the length of their tables.
-const GROUPS: [(&str, usize); 3] = [("up to 512 bytes", 512), ("up to 4,096", 4096), ("longer", usize::MAX)];
+const GROUPS: [(&str, usize); 3] = [
+    ("up to 512 bytes", 512),
+    ("up to 4,096", 4096),
+    ("longer", usize::MAX),
+];
 
 struct Space {
     tree: Vec<u8>,
@@ -28,7 +32,11 @@ fn proved(table: &[u8], space: &mut Space) -> Told {
         work: &mut space.work,
     };
     match sporekettle::check(table, rooms) {
-        Ok(accepted) => (true, accepted.tree().len() as u16, accepted.goals().len() as u16),
+        Ok(accepted) => (
+            true,
+            accepted.tree().len() as u16,
+            accepted.goals().len() as u16,
+        ),
         Err(refusal) => (false, refusal.number.into(), refusal.place),
     }
 }
@@ -57,13 +65,21 @@ fn round(scripts: &[&[u8]], mut one: impl FnMut(&[u8]) -> Told) -> (Duration, Ve
 }
 
 /// The shortest round of each, taken in turns.
-fn shortest(scripts: &[&[u8]], rounds: usize, clear: bool, space: &mut Space) -> (Duration, Duration) {
+fn shortest(
+    scripts: &[&[u8]],
+    rounds: usize,
+    clear: bool,
+    space: &mut Space,
+) -> (Duration, Duration) {
     let mut best = (Duration::MAX, Duration::MAX);
     for _ in 0..rounds {
         let (ours, told) = round(scripts, |script| proved(script, space));
         let (theirs, also) = round(scripts, |script| plain(script, space, clear));
         if let Some(i) = (0..told.len()).find(|&i| told[i] != also[i]) {
-            eprintln!("the two disagree on a script: {:?} and {:?}", told[i], also[i]);
+            eprintln!(
+                "the two disagree on a script: {:?} and {:?}",
+                told[i], also[i]
+            );
             exit(1);
         }
         best = (best.0.min(ours), best.1.min(theirs));
@@ -85,13 +101,20 @@ fn tables(bytes: &[u8]) -> Vec<&[u8]> {
 
 fn report(name: &str, count: usize, times: (Duration, Duration)) {
     let each = |time: Duration| time.as_secs_f64() * 1e6 / count.max(1) as f64;
-    println!("{name:<16} {count:>6} scripts  proved {:>8.2} us  plain {:>8.2} us  ratio {:.2}", each(times.0), each(times.1), each(times.0) / each(times.1));
+    println!(
+        "{name:<16} {count:>6} scripts  proved {:>8.2} us  plain {:>8.2} us  ratio {:.2}",
+        each(times.0),
+        each(times.1),
+        each(times.0) / each(times.1)
+    );
 }
 
 fn main() {
     let arguments: Vec<String> = env::args().collect();
     let (file, rounds, clear) = match &arguments[1..] {
-        [file, rounds, rooms] if rooms == "clear" || rooms == "keep" => (file, rounds.parse().unwrap_or(1), rooms == "clear"),
+        [file, rounds, rooms] if rooms == "clear" || rooms == "keep" => {
+            (file, rounds.parse().unwrap_or(1), rooms == "clear")
+        }
         _ => {
             eprintln!("usage: speed FILE ROUNDS clear|keep");
             exit(2);
@@ -102,12 +125,29 @@ fn main() {
         exit(2);
     });
     let scripts = tables(&bytes);
-    let mut space = Space { tree: vec![0; TREE], goals: vec![0; GOALS], propositions: vec![0; PROPOSITIONS], work: vec![0; WORK] };
+    let mut space = Space {
+        tree: vec![0; TREE],
+        goals: vec![0; GOALS],
+        propositions: vec![0; PROPOSITIONS],
+        work: vec![0; WORK],
+    };
     let mut least = 0;
     for (name, most) in GROUPS {
-        let group: Vec<&[u8]> = scripts.iter().copied().filter(|script| (least..=most).contains(&script.len())).collect();
-        report(name, group.len(), shortest(&group, rounds, clear, &mut space));
+        let group: Vec<&[u8]> = scripts
+            .iter()
+            .copied()
+            .filter(|script| (least..=most).contains(&script.len()))
+            .collect();
+        report(
+            name,
+            group.len(),
+            shortest(&group, rounds, clear, &mut space),
+        );
         least = most.saturating_add(1);
     }
-    report("all", scripts.len(), shortest(&scripts, rounds, clear, &mut space));
+    report(
+        "all",
+        scripts.len(),
+        shortest(&scripts, rounds, clear, &mut space),
+    );
 }

@@ -109,21 +109,26 @@ fn report(name: &str, count: usize, times: (Duration, Duration)) {
     );
 }
 
-fn main() {
-    let arguments: Vec<String> = env::args().collect();
-    let (file, rounds, clear) = match &arguments[1..] {
+/// The scripts' bytes, how many rounds, and whether rooms are cleared.
+fn asked() -> (Vec<u8>, usize, bool) {
+    let arguments: Vec<String> = env::args().skip(1).collect();
+    match &arguments[..] {
         [file, rounds, rooms] if rooms == "clear" || rooms == "keep" => {
-            (file, rounds.parse().unwrap_or(1), rooms == "clear")
+            let bytes = fs::read(file).unwrap_or_else(|error| stop(&format!("{file}: {error}")));
+            let rounds = rounds.parse().unwrap_or_else(|_| stop("how many rounds?"));
+            (bytes, rounds, rooms == "clear")
         }
-        _ => {
-            eprintln!("usage: speed FILE ROUNDS clear|keep");
-            exit(2);
-        }
-    };
-    let bytes = fs::read(file).unwrap_or_else(|error| {
-        eprintln!("{file}: {error}");
-        exit(2);
-    });
+        _ => stop("usage: speed FILE ROUNDS clear|keep"),
+    }
+}
+
+fn stop(why: &str) -> ! {
+    eprintln!("{why}");
+    exit(2)
+}
+
+fn main() {
+    let (bytes, rounds, clear) = asked();
     let scripts = tables(&bytes);
     let mut space = Space {
         tree: vec![0; TREE],
@@ -133,11 +138,8 @@ fn main() {
     };
     let mut least = 0;
     for (name, most) in GROUPS {
-        let group: Vec<&[u8]> = scripts
-            .iter()
-            .copied()
-            .filter(|script| (least..=most).contains(&script.len()))
-            .collect();
+        let fits = |script: &&[u8]| (least..=most).contains(&script.len());
+        let group: Vec<&[u8]> = scripts.iter().copied().filter(fits).collect();
         report(
             name,
             group.len(),

@@ -11,6 +11,7 @@ use lib.Dec.{eqb, ltb}
 use borrow.Author.Tests.{eqb-true, eq-eqb, ltb-false, lt-ltb, le-ltb, le-leb}
 use Rattle.number.specs.declared.record.Record.{Record}
 use Rattle.number.specs.declared.Serial.{Serial}
+use Rattle.number.specs.Limits.{largest}
 use Rattle.number.specs.Records.{recordAt, Same}
 use Rattle.rules.specs.Prop.{Param, free, ser, bound, Link, Quant, Origin, made, Prop, const, link, quant, atom, copy, walk, put-at, bind-at, size}
 use Rattle.rules.specs.Context.{Ctx, Entry, find, settle-as, settle}
@@ -348,10 +349,10 @@ module _ (old : List ℕ) (c n : ℕ) (ok : Arena old c) (k : n < c) (fit : (tab
       second-under : r .b < n
       second-under = at-linked old c n ok k r er lo hi .1 .second
 
-      pub first-deep : (d : ℕ) → d + n ≤ 65535 → d + r .a ≤ 65535
+      pub first-deep : (d : ℕ) → d + n ≤ largest → d + r .a ≤ largest
       first-deep d h = omega (arith, first-under)
 
-      pub second-deep : (d : ℕ) → d + n ≤ 65535 → d + r .b ≤ 65535
+      pub second-deep : (d : ℕ) → d + n ≤ largest → d + r .b ≤ largest
       second-deep d h = omega (arith, second-under)
 
       pub first-room : (tables : ℕ) → c + size (roomAt tables old (r .a)) ≤ most-records
@@ -427,10 +428,10 @@ module _ (old : List ℕ) (c n : ℕ) (ok : Arena old c) (k : n < c) (fit : (tab
       under : r .c < n
       under = at-quantified old c n ok k r er lo hi .1 .under
 
-      pub deeper-fits : (d : ℕ) → d + n ≤ 65535 → d + 1 < 65536
+      pub deeper-fits : (d : ℕ) → d + n ≤ largest → d + 1 < 65536
       deeper-fits d h = omega (arith, under)
 
-      pub body-deep : (d : ℕ) → d + n ≤ 65535 → d + 1 + r .c ≤ 65535
+      pub body-deep : (d : ℕ) → d + n ≤ largest → d + 1 + r .c ≤ largest
       body-deep d h = omega (arith, under)
 
       pub body-room : (tables : ℕ) → c + size (roomAt tables old (r .c)) ≤ most-records

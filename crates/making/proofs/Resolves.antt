@@ -14,6 +14,7 @@ use Rattle.number.specs.declared.Type.the-variants as type
 use Rattle.number.specs.declared.Name.{Name}
 use Rattle.number.specs.declared.Proposition.{Proposition}
 use Rattle.number.specs.declared.record.Record.{Record}
+use Rattle.number.specs.Limits.{largest}
 use Rattle.number.specs.Records.{recordAt}
 use Rattle.rules.specs.Prop.{Param, free, ser, bound, Prop, Ty, prop, datatype, copy, walk, each-param, each, size, size-ty}
 use Rattle.rules.specs.Context.{Ctx, Entry, find, known-in, known, settle-as, settle, resolve}
@@ -143,7 +144,7 @@ module _ (f g : Sort → Ty) (w : List ℕ) (n : ℕ) where
   resolve-any (datatype D) = refl
 
 -- `resolve`, in the order of its code
-pub deep-fits : (c left n : ℕ) → n < c → c + left ≤ most-records → 0 + n ≤ 65535
+pub deep-fits : (c left n : ℕ) → n < c → c + left ≤ most-records → 0 + n ≤ largest
 unfolding limit
 deep-fits c left n h l = omega arith
 

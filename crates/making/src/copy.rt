@@ -3,6 +3,7 @@ ghost use mathlib.Core.Path.{_≡_};
 ghost use mathlib.Core.Bool.{true};
 ghost use Prim.Native.Nat.{ℕ, _+_, _*_, _<_, _≤_};
 ghost use lib.ListN.{length};
+ghost use Rattle.number.specs.Limits.{largest};
 ghost use Rattle.rules.specs.Prop.{size};
 ghost use Rattle.rules.specs.Context.{settle};
 ghost use Rattle.layout.specs.File.{atomic, «prop-kind»};
@@ -135,7 +136,7 @@ pub fn copy(
 ) -> Copied
     requires { ⌜ Arena (now room) count ⌝ }
     requires { ⌜ n .0 < count ⌝ }
-    requires { ⌜ d + n .0 ≤ 65535 ⌝ }
+    requires { ⌜ d + n .0 ≤ largest ⌝ }
     requires { ⌜ ((tables : ℕ) → count + size (roomAt tables (now room) (n .0)) ≤ «most-records») ⌝ }
     requires { ⌜ 16 * «most-records» ≤ length (now room) ⌝ }
     requires { ⌜ ChangeIn (now work) change ⌝ }

@@ -4,6 +4,7 @@ use mathlib.Core.List.{List}
 use Prim.Native.Nat.{ℕ, _+_, _*_, _<_, _≤_}
 use native.Mathlib.Omega.{arith}
 use lib.ListN.{length}
+use Rattle.number.specs.Limits.{largest}
 use Rattle.table.specs.Reading.{termAt}
 use Rattle.making.specs.Copy.{most-records}
 use Rattle.context.specs.Context.{most-entries}
@@ -20,7 +21,7 @@ pub base-count : {l : List ℕ} {R : Rooms} {st : State} → Base l R st → cou
 base-count b = omega (arith, b .table .counted .propositions, b .made)
 
 -- one record more can be counted, also where propositions were made
-pub ready-inner : {l : List ℕ} {R : Rooms} {k : ℕ} {st : State} → Ready l R k st → (s : State) → s .records ≡ st .records → s .records < 65535
+pub ready-inner : {l : List ℕ} {R : Rooms} {k : ℕ} {st : State} → Ready l R k st → (s : State) → s .records ≡ st .records → s .records < largest
 ready-inner {l} {k = k} rd s e = omega (arith, rd .records, nodes-some (termAt l k))
 
 -- the entries are in the room
@@ -37,5 +38,5 @@ ready-tree {l} {k = k} rd = omega (arith, rd .records, nodes-some (termAt l k), 
 pub ready-goals : {l : List ℕ} {R : Rooms} {k : ℕ} {st : State} → Ready l R k st → 8 * (st .goals) + 8 ≤ length (R .goals)
 ready-goals {l} {k = k} rd = omega (arith, rd .goals, nodes-some (termAt l k), rd .base .goals-room)
 
-pub ready-goal : {l : List ℕ} {R : Rooms} {k : ℕ} {st : State} → Ready l R k st → st .goals < 65535
+pub ready-goal : {l : List ℕ} {R : Rooms} {k : ℕ} {st : State} → Ready l R k st → st .goals < largest
 ready-goal {l} {k = k} rd = omega (arith, rd .goals, nodes-some (termAt l k))

@@ -11,6 +11,7 @@ use Rattle.number.specs.declared.Term.{Term as Place}
 use Rattle.number.specs.declared.Type.{«Type» as Sort}
 use Rattle.number.specs.declared.Type.the-variants as sort
 use Rattle.number.specs.declared.record.Record.{Record}
+use Rattle.number.specs.Limits.{largest}
 use Rattle.number.specs.Records.{Put}
 use Rattle.layout.specs.declared.record.TermRecord.{TermRecord}
 use Rattle.layout.specs.File.{props, terms, termRecord}
@@ -173,7 +174,7 @@ module _ {l : List ℕ} {R : Rooms} {k : ℕ} {st : State} (rd : Ready l R k st)
           pub case-room-1 : 8 * (s .context) + 8 ≤ length (R₁ .work)
           case-room-1 = fresh-room rd opened
 
-          pub case-counts-1 : (s .context < 65535) × (s .serials < 65535)
+          pub case-counts-1 : (s .context < largest) × (s .serials < largest)
           case-counts-1 = fresh-counts rd opened (omega (arith, sizes)) (omega arith)
 
           -- THE LEFT ARM
@@ -211,8 +212,8 @@ module _ {l : List ℕ} {R : Rooms} {k : ℕ} {st : State} (rd : Ready l R k st)
                 pub case-room-2 : 8 * (z .context) + 8 ≤ length (R₃ .work)
                 case-room-2 = subst⁻¹ (λ (z : State). 8 * (z .context) + 8 ≤ length (R₃ .work)) ez (fresh-room rd (half .2))
 
-                pub case-counts-2 : (z .context < 65535) × (z .serials < 65535)
-                case-counts-2 = subst⁻¹ (λ (z : State). (z .context < 65535) × (z .serials < 65535)) ez (fresh-counts rd (half .2) (omega (arith, sizes)) (omega arith))
+                pub case-counts-2 : (z .context < largest) × (z .serials < largest)
+                case-counts-2 = subst⁻¹ (λ (z : State). (z .context < largest) × (z .serials < largest)) ez (fresh-counts rd (half .2) (omega (arith, sizes)) (omega arith))
 
                 -- THE RIGHT ARM
                 module _ (work₃ : List ℕ) (s₃ : State) (en′ : (s₃ ≡ deeper (numbered z)) × Inserted (R₃ .work) (z .context) (record { name = r .name2; serial = record { 0 = z .serials }; typ = sort.Proposition b }) work₃) where

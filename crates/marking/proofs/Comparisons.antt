@@ -9,7 +9,7 @@ use lib.ListN.{length}
 use Rattle.number.specs.declared.Term.{Term as Place}
 use Rattle.number.specs.declared.Type.{«Type» as Sort}
 use Rattle.number.specs.declared.record.Record.{Record}
-use Rattle.number.specs.Limits.{none}
+use Rattle.number.specs.Limits.{none, largest}
 use Rattle.number.specs.Records.{recordAt, Put}
 use Rattle.layout.specs.File.{props, termRecord}
 use Rattle.rules.specs.Prop.{Ty, eq, alpha}
@@ -190,7 +190,7 @@ module _ {l : List ℕ} {R : Rooms} {k : ℕ} {st : State} (rd : Ready l R k st)
           pub syn-shift : 16 * (s .records) + 16 ≤ length (R₁ .tree)
           syn-shift = omega (arith, few, rd .records, syn-base .tree-room)
 
-          pub syn-inner : s .records < 65535
+          pub syn-inner : s .records < largest
           syn-inner = omega (arith, few, rd .records)
 
           module _ (tr : List ℕ) (sh : Shifted (st .records) (s .records) (R₁ .tree) tr) where

@@ -13,7 +13,7 @@ use Rattle.number.specs.declared.Type.{«Type» as Sort}
 use Rattle.number.specs.declared.Type.the-variants as sort
 use Rattle.number.specs.declared.identifier.Identifier.{Identifier}
 use Rattle.number.specs.declared.record.Record.{Record}
-use Rattle.number.specs.Limits.{none}
+use Rattle.number.specs.Limits.{none, largest}
 use Rattle.number.specs.Records.{Put}
 use Rattle.layout.specs.declared.record.TermRecord.{TermRecord}
 use Rattle.layout.specs.File.{props, terms, termRecord}
@@ -91,10 +91,10 @@ module _ {l : List ℕ} {R : Rooms} {k : ℕ} {st : State} (rd : Ready l R k st)
   begun w = doing-start _ (kidAt l c₁, tt) rd (single-begins l k R w st (Single.fun x (written l k)) c₁ shape)
 
   -- there is space for a record and a serial
-  pub fun-records : st .records < 65535
+  pub fun-records : st .records < largest
   fun-records = omega (arith, rd .records, sizes)
 
-  pub fun-serials : (s : State) → s ≡ inner st → s .serials < 65535
+  pub fun-serials : (s : State) → s ≡ inner st → s .serials < largest
   fun-serials s e = let f = ap (λ (s : State). s .serials) e in omega (arith, rd .serials, rd .base .table .counted .few, sizes)
 
   -- what `new_identifier` says, of the state that `inner` answered
@@ -191,7 +191,7 @@ module _ {l : List ℕ} {R : Rooms} {k : ℕ} {st : State} (rd : Ready l R k st)
             few : s₁ .context < most-entries
             few = omega (arith, rd .context, rd .base .table .counted .few, sizes, ahead .left .context)
 
-            pub chk-fun-enter : (8 * (s₁ .context) + 8 ≤ length (R .work)) × (s₁ .context < 65535)
+            pub chk-fun-enter : (8 * (s₁ .context) + 8 ≤ length (R .work)) × (s₁ .context < largest)
             chk-fun-enter =
                 (omega (arith, few, rd .base .work-room), omega (arith, few))
 
@@ -286,14 +286,14 @@ module _ {l : List ℕ} {R : Rooms} {k : ℕ} {st : State} (rd : Ready l R k st)
           numbered-on : Doing l R k synth st Q₁ (numbered (inner s)) (under (found .typ) (s .serials)) (kidAt l c₁, tt) 0 1 0
           numbered-on = doing-step _ 1 numbering (numbered-left (found .making .arena)) (numbering .made) (omega arith) (serial-goes (under (found .typ)) (kidAt l c₁, tt) (inner s))
 
-          pub syn-fun-records : s .records < 65535
+          pub syn-fun-records : s .records < largest
           syn-fun-records = omega (arith, rd .records, sizes, ap (λ (s : State). s .records) (found .making .state))
 
           deep-few : s .context < most-entries
           deep-few = omega (arith, rd .context, rd .base .table .counted .few, sizes, ap (λ (s : State). s .context) (found .making .state))
 
           module _ (s₀ : State) (e₀ : s₀ ≡ inner s) where
-            pub syn-fun-enter : (8 * (s₀ .context) + 8 ≤ length (R .work)) × ((s₀ .context < 65535) × (s₀ .serials < 65535))
+            pub syn-fun-enter : (8 * (s₀ .context) + 8 ≤ length (R .work)) × ((s₀ .context < largest) × (s₀ .serials < largest))
             syn-fun-enter =
                 let e : s₀ .context ≡ s .context = ap (λ (s : State). s .context) e₀ in
                 let f : s₀ .serials ≡ st .serials = ap (λ (s : State). s .serials) e₀ ∙ ap (λ (s : State). s .serials) (found .making .state) in

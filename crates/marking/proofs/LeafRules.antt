@@ -9,7 +9,7 @@ use Rattle.number.specs.declared.Proposition.{Proposition}
 use Rattle.number.specs.declared.Type.{«Type» as Sort}
 use Rattle.number.specs.declared.Type.the-variants as sort
 use Rattle.number.specs.declared.record.Record.{Record}
-use Rattle.number.specs.Limits.{none}
+use Rattle.number.specs.Limits.{none, largest}
 use Rattle.number.specs.Records.{Put}
 use Rattle.layout.specs.declared.record.TermRecord.{TermRecord}
 use Rattle.layout.specs.File.{props, termRecord}
@@ -47,7 +47,7 @@ use Rattle.marking.proofs.Moves.{GrownTo, MadeFor, made-for, made-goes,
 use Rattle.marking.proofs.Terms.{leaf-begins, is-ident, is-unit, is-sorry}
 
 -- ROOM for the counts, once a True is made
-pub true-room : {l : List ℕ} → Counted l → (st : State) (c left : ℕ) → c ≡ countOf l st → left + st .made ≡ limit → (old new : List ℕ) (o : Made) → ConstantIs true old c left new o → (m : Proposition) (e : ℕ) → o ≡ At m e → (c ≤ e) × (st .made + e ≤ 65535)
+pub true-room : {l : List ℕ} → Counted l → (st : State) (c left : ℕ) → c ≡ countOf l st → left + st .made ≡ limit → (old new : List ℕ) (o : Made) → ConstantIs true old c left new o → (m : Proposition) (e : ℕ) → o ≡ At m e → (c ≤ e) × (st .made + e ≤ largest)
 true-room {l} counted st c left ec el old new o is m e q = (made-more l old new c left st _ _ o ec el is m e q, made-few l old new c left st _ _ o ec el is m e q counted)
 
 module _ {l : List ℕ} {R : Rooms} {k : ℕ} {st : State} (rd : Ready l R k st) where

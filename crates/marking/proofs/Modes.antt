@@ -9,6 +9,7 @@ use Rattle.number.specs.declared.Name.{Name}
 use Rattle.number.specs.declared.Term.{Term as Place}
 use Rattle.number.specs.declared.Type.{«Type» as Sort}
 use Rattle.number.specs.declared.record.Record.{Record}
+use Rattle.number.specs.Limits.{largest}
 use Rattle.number.specs.Records.{Put}
 use Rattle.layout.specs.File.{terms}
 use Rattle.rules.specs.Prop.{Ty}
@@ -136,7 +137,7 @@ module _ {l : List ℕ} {R₀ : Rooms} {k : ℕ} {w : Want} {st₀ : State} {R :
   pub fresh-room : 8 * (s .context) + 8 ≤ length (R .work)
   fresh-room = omega (arith, fresh-few, rd .base .work-room, d .left .grown .work-long)
 
-  pub fresh-counts : 1 + used ≤ nodes (termAt l k) → own ≤ 1 → (s .context < 65535) × (s .serials < 65535)
+  pub fresh-counts : 1 + used ≤ nodes (termAt l k) → own ≤ 1 → (s .context < largest) × (s .serials < largest)
   fresh-counts n o = (omega (arith, fresh-few), omega (arith, rd .serials, rd .base .table .counted .few, d .few-serials))
 
   module _ {x : Name} {T : Sort} {A : Ty} (says : Stands l (R .props) (countOf l s) T A) {work' : List ℕ} {s₁ : State}

@@ -11,6 +11,7 @@ use borrow.Author.Tests.{le-leb, lt-leb}
 use Rattle.number.specs.declared.Proposition.{Proposition}
 use Rattle.number.specs.declared.Type.{«Type» as Sort}
 use Rattle.number.specs.declared.Type.the-variants as sort
+use Rattle.number.specs.Limits.{largest}
 use Rattle.number.specs.Records.{Same}
 use Rattle.layout.specs.File.{props}
 use Rattle.rules.specs.Prop.{Prop, Ty, prop, put, size}
@@ -186,7 +187,7 @@ module _ (l old new : List ℕ) (c left : ℕ) (st : State) (k : ℕ → ℕ) (P
   pub made-more : (m : Proposition) (e : ℕ) → o ≡ At m e → c ≤ e
   made-more m e q = let count : e ≡ c + k (props l) = subst (MadeIs old c left k P new) q is .1 .count (props l) in omega arith
 
-  pub made-few : (m : Proposition) (e : ℕ) → o ≡ At m e → Counted l → st .made + e ≤ 65535
+  pub made-few : (m : Proposition) (e : ℕ) → o ≡ At m e → Counted l → st .made + e ≤ largest
   unfolding limit
   made-few m e q h =
       let few : k (props l) ≤ left = subst (MadeIs old c left k P new) q is .0 (props l) in
@@ -214,7 +215,7 @@ module _ (l ps ps' : List ℕ) (c left n i : ℕ) (st : State) (o : Made) (ec : 
   pub put-more : (m : Proposition) (e : ℕ) → o ≡ At m e → c ≤ e
   put-more m e q = made-more l ps ps' c left st count whole o ec el is m e q
 
-  pub put-few : (m : Proposition) (e : ℕ) → o ≡ At m e → Counted l → st .made + e ≤ 65535
+  pub put-few : (m : Proposition) (e : ℕ) → o ≡ At m e → Counted l → st .made + e ≤ largest
   put-few m e q h = made-few l ps ps' c left st count whole o ec el is m e q h
 
   pub put-made : (s : State) (m : Proposition) (e : ℕ) → o ≡ At m e → GrownTo st c e s → MadeFor l ps ps' st s (size (roomAt (props l) ps n)) (put i (roomAt (props l) ps n)) m

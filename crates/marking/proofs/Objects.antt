@@ -9,6 +9,7 @@ use Rattle.number.specs.declared.Name.{Name}
 use Rattle.number.specs.declared.Proposition.{Proposition}
 use Rattle.number.specs.declared.Type.{«Type» as Sort}
 use Rattle.number.specs.declared.Type.the-variants as sort
+use Rattle.number.specs.Limits.{largest}
 use Rattle.layout.specs.declared.record.TermRecord.{TermRecord}
 use Rattle.layout.specs.File.{props, terms, termRecord, kinds, kind-of}
 use Rattle.rules.specs.Prop.{Prop, Ty, ex, put, size, prop, datatype}
@@ -93,10 +94,10 @@ module _ {l : List ℕ} (table : Table l) {t : ℕ} (h : t < terms l) (r : TermR
 
 -- ROOM for the entries of a let
 module _ (work : List ℕ) (st s : State) (es : s .serials ≡ st .serials) (ec : s .context ≡ st .context) (few : st .context + 2 ≤ most-entries) (long : context-room ≤ length work) (serials : st .serials + 2 ≤ most-serials) where
-  pub let-room-1 : (8 * (s .context) + 8 ≤ length work) × ((s .context < 65535) × (s .serials < 65535))
+  pub let-room-1 : (8 * (s .context) + 8 ≤ length work) × ((s .context < largest) × (s .serials < largest))
   let-room-1 = (omega arith, (omega arith, omega arith))
 
-  pub let-room-2 : (s₁ : State) (w₁ : List ℕ) → s₁ ≡ deeper (numbered s) → length w₁ ≡ length work → (8 * (s₁ .context) + 8 ≤ length w₁) × ((s₁ .context < 65535) × (s₁ .serials < 65535))
+  pub let-room-2 : (s₁ : State) (w₁ : List ℕ) → s₁ ≡ deeper (numbered s) → length w₁ ≡ length work → (8 * (s₁ .context) + 8 ≤ length w₁) × ((s₁ .context < largest) × (s₁ .serials < largest))
   let-room-2 s₁ w₁ e₁ same =
       let ec₁ = ap (λ (s : State). s .context) e₁ in
       let es₁ = ap (λ (s : State). s .serials) e₁ in
@@ -125,7 +126,7 @@ module _ (l ps work : List ℕ) (H : Sort) (n p head : ℕ) (st : State) (count 
           ap (λ (q : Prog a). obey q ks (stOf st)) (over .goes (props l) a _ _)
           ∙ make-stops {n = a} (size B) p (k (st .serials) (suc (st .serials)) (D .0) (put (st .serials) B)) ks (next (next (stOf st))) (full-room l ps ps' count left st _ _ z ec el makes q)
 
-      pub let-grown : Counted l → (m : Proposition) (end : ℕ) → z ≡ At m end → (count ≤ end) × (st .made + end ≤ 65535)
+      pub let-grown : Counted l → (m : Proposition) (end : ℕ) → z ≡ At m end → (count ≤ end) × (st .made + end ≤ largest)
       let-grown counted m end q = (made-more l ps ps' count left st _ _ z ec el makes m end q, made-few l ps ps' count left st _ _ z ec el makes m end q counted)
 
       module _ (m : Proposition) (end : ℕ) (q : z ≡ At m end) (s : State) (grown : GrownTo st count end s) where

@@ -7,6 +7,7 @@ use Rattle.number.specs.declared.Name.{Name}
 use Rattle.number.specs.declared.Proposition.{Proposition as Number}
 use Rattle.number.specs.declared.Type.{«Type» as Sort}
 use Rattle.number.specs.declared.Type.the-variants.{Proposition, Datatype}
+use Rattle.number.specs.Limits.{largest}
 use Rattle.layout.specs.File.{props}
 use Rattle.rules.specs.Prop.{made, Prop, Quant, link, quant, prop, datatype, imp, all, ex, put, bind, holds, size}
 use Rattle.rules.specs.State.{limit}
@@ -115,7 +116,7 @@ module _ (l ps ps' : List ℕ) (x i : ℕ) (A : Sort) (b c left : ℕ) (st : Sta
     pub impl-more : (m : Number) (e : ℕ) → o ≡ At m e → c ≤ e
     impl-more m e v = made-more l ps ps' c left st (λ t. 1) (λ t. link made imp (roomAt t ps (a .0)) (roomAt t ps b)) o ec el is m e v
 
-    pub impl-few : (m : Number) (e : ℕ) → o ≡ At m e → Counted l → st .made + e ≤ 65535
+    pub impl-few : (m : Number) (e : ℕ) → o ≡ At m e → Counted l → st .made + e ≤ largest
     impl-few m e v h = made-few l ps ps' c left st (λ t. 1) (λ t. link made imp (roomAt t ps (a .0)) (roomAt t ps b)) o ec el is m e v h
 
     pub impl-full : o ≡ Full → AbstractedAs l ps ps' x i A b st abstraction.Full
@@ -136,7 +137,7 @@ module _ (l ps ps' : List ℕ) (x i : ℕ) (A : Sort) (b c left : ℕ) (st : Sta
     pub forall-more : (m : Number) (e : ℕ) → o ≡ At m e → c ≤ e
     forall-more m e v = made-more l ps ps' c left st (λ t. size (roomAt t ps b) + 1) (λ t. quant made all x (D .0) (bind i (roomAt t ps b))) o ec el is m e v
 
-    pub forall-few : (m : Number) (e : ℕ) → o ≡ At m e → Counted l → st .made + e ≤ 65535
+    pub forall-few : (m : Number) (e : ℕ) → o ≡ At m e → Counted l → st .made + e ≤ largest
     forall-few m e v h = made-few l ps ps' c left st (λ t. size (roomAt t ps b) + 1) (λ t. quant made all x (D .0) (bind i (roomAt t ps b))) o ec el is m e v h
 
     pub forall-full : o ≡ Full → AbstractedAs l ps ps' x i A b st abstraction.Full

@@ -11,6 +11,7 @@ use Rattle.number.specs.declared.Name.{Name}
 use Rattle.number.specs.declared.Serial.{Serial}
 use Rattle.number.specs.declared.Type.{«Type» as Sort}
 use Rattle.number.specs.declared.Type.the-variants as sort
+use Rattle.number.specs.Limits.{largest}
 use Rattle.number.specs.Records.{Same}
 use Rattle.layout.specs.File.{props}
 use Rattle.rules.specs.Prop.{Ty, alpha, size-ty}
@@ -43,8 +44,8 @@ use Rattle.marking.proofs.Moves.{making-none, making-more, make-goes, m
 pub fresh-room : (st s : State) (work : List ℕ) → s ≡ numbered st → 8 * (st .context) + 8 ≤ length work → 8 * (s .context) + 8 ≤ length work
 fresh-room st s work e h = subst⁻¹ (λ (s : State). 8 * (s .context) + 8 ≤ length work) e h
 
-pub fresh-few : (st s : State) → s ≡ numbered st → st .context < 65535 → s .context < 65535
-fresh-few st s e h = subst⁻¹ (λ (s : State). s .context < 65535) e h
+pub fresh-few : (st s : State) → s ≡ numbered st → st .context < largest → s .context < largest
+fresh-few st s e h = subst⁻¹ (λ (s : State). s .context < largest) e h
 
 pub fresh-state : (st s r : State) → s ≡ numbered st → r ≡ deeper s → r ≡ deeper (numbered st)
 fresh-state st s r e h = h ∙ ap (λ (s : State). deeper s) e

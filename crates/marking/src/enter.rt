@@ -2,6 +2,7 @@
 ghost use mathlib.Core.Path.{_≡_};
 ghost use Prim.Native.Nat.{_+_, _*_, _<_, _≤_};
 ghost use lib.ListN.{length};
+ghost use Rattle.number.specs.Limits.{largest};
 ghost use Rattle.context.specs.Context.{Inserted};
 ghost use Rattle.marking.specs.Rooms.{numbered, deeper};
 use super::state::State;
@@ -20,7 +21,7 @@ pub struct Fresh {
 
 // A new identifier of that name: serials count from 0 in order of creation.
 pub fn new_identifier(st: State, name: Name) -> Fresh
-    requires { ⌜ st .serials < 65535 ⌝ }
+    requires { ⌜ st .serials < largest ⌝ }
     ensures { λ r. ⌜ (r .identifier .name ≡ name) × (r .identifier .serial .0 ≡ st .serials) × (r .state ≡ numbered st) ⌝ }
 {
     let made = create(Counter { count: st.serials }, name);
@@ -40,7 +41,7 @@ pub fn new_identifier(st: State, name: Name) -> Fresh
 // The context gets an entry.
 pub fn enter(work: &mut [u8], st: State, identifier: Identifier, typ: Type) -> State
     requires { ⌜ 8 * (st .context) + 8 ≤ length (now work) ⌝ }
-    requires { ⌜ st .context < 65535 ⌝ }
+    requires { ⌜ st .context < largest ⌝ }
     ensures { λ r. ⌜ (r ≡ deeper st) × Inserted (now (work .entry)) (st .context) (record { name = identifier .name; serial = identifier .serial; typ = typ }) (now (work .exit)) ⌝ }
 {
     let name = identifier.name;
@@ -58,7 +59,7 @@ pub fn enter(work: &mut [u8], st: State, identifier: Identifier, typ: Type) -> S
 // A new identifier of that name, and its entry.
 pub fn enter_fresh(work: &mut [u8], st: State, name: Name, typ: Type) -> State
     requires { ⌜ 8 * (st .context) + 8 ≤ length (now work) ⌝ }
-    requires { ⌜ (st .context < 65535) × (st .serials < 65535) ⌝ }
+    requires { ⌜ (st .context < largest) × (st .serials < largest) ⌝ }
     ensures { λ r. ⌜ (r ≡ deeper (numbered st)) × Inserted (now (work .entry)) (st .context) (record { name = name; serial = record { 0 = st .serials }; typ = typ }) (now (work .exit)) ⌝ }
 {
     let f = new_identifier(st, name);

@@ -3,6 +3,7 @@ ghost use mathlib.Core.Path.{_≡_};
 ghost use mathlib.Core.List.{List};
 ghost use Prim.Native.Nat.{ℕ, _+_, _*_, _<_, _≤_};
 ghost use lib.ListN.{length};
+ghost use Rattle.number.specs.Limits.{largest};
 ghost use Rattle.rules.specs.State.{limit};
 ghost use Rattle.layout.specs.File.{terms, termRecord};
 ghost use Rattle.prop.specs.Room.{TypeIn};
@@ -46,7 +47,7 @@ pub fn chk_unit(
     requires { ⌜ Table (now file) × (st .made ≤ limit) ⌝ }
     requires { ⌜ Loaded (now file) (now props) (countOf (now file) st) ⌝ }
     requires { ⌜ TypeIn (countOf (now file) st) wanted ⌝ }
-    requires { ⌜ (16 * (st .records) + 16 ≤ length (now tree)) × (st .records < 65535) ⌝ }
+    requires { ⌜ (16 * (st .records) + 16 ≤ length (now tree)) × (st .records < largest) ⌝ }
     requires { ⌜ termRecord (now file) (k .0) .kind ≡ 11 ⌝ }
     ensures { λ r. ⌜ ((goals work : List ℕ) → Ready (now (file .entry)) (rooms (now (tree .entry)) goals (now (props .entry)) work) (k .0) st → CheckMeets (now (file .entry)) (rooms (now (tree .entry)) goals (now (props .entry)) work) (rooms (now (tree .exit)) goals (now (props .entry)) work) (k .0) wanted st r) ⌝ }
 {
@@ -74,8 +75,8 @@ pub fn chk_sorry(
     st: State,
 ) -> Checked
     requires { ⌜ TypeIn (countOf (now file) st) wanted ⌝ }
-    requires { ⌜ (16 * (st .records) + 16 ≤ length (now tree)) × (st .records < 65535) ⌝ }
-    requires { ⌜ (8 * (st .goals) + 8 ≤ length (now goals)) × (st .goals < 65535) ⌝ }
+    requires { ⌜ (16 * (st .records) + 16 ≤ length (now tree)) × (st .records < largest) ⌝ }
+    requires { ⌜ (8 * (st .goals) + 8 ≤ length (now goals)) × (st .goals < largest) ⌝ }
     requires { ⌜ («run-room» ≤ length (now work)) × (st .context ≤ «most-entries») ⌝ }
     requires { ⌜ termRecord (now file) (k .0) .kind ≡ 13 ⌝ }
     ensures { λ r. ⌜ ((ps : List ℕ) → Ready (now (file .entry)) (rooms (now (tree .entry)) (now (goals .entry)) ps (now (work .entry))) (k .0) st → CheckMeets (now (file .entry)) (rooms (now (tree .entry)) (now (goals .entry)) ps (now (work .entry))) (rooms (now (tree .exit)) (now (goals .exit)) ps (now (work .exit))) (k .0) wanted st r) ⌝ }
@@ -99,7 +100,7 @@ pub fn chk_sorry(
 // Ident: its latest entry, else 20.
 pub fn syn_ident(file: &[u8], tree: &mut [u8], work: &[u8], k: Term, st: State) -> Synthesized
     requires { ⌜ Table (now file) × (k .0 < terms (now file)) ⌝ }
-    requires { ⌜ (16 * (st .records) + 16 ≤ length (now tree)) × (st .records < 65535) ⌝ }
+    requires { ⌜ (16 * (st .records) + 16 ≤ length (now tree)) × (st .records < largest) ⌝ }
     requires { ⌜ 8 * (st .context) ≤ length (now work) ⌝ }
     requires { ⌜ termRecord (now file) (k .0) .kind ≡ 0 ⌝ }
     ensures { λ r. ⌜ ((goals ps : List ℕ) → Ready (now (file .entry)) (rooms (now (tree .entry)) goals ps (now (work .entry))) (k .0) st → SynthMeets (now (file .entry)) (rooms (now (tree .entry)) goals ps (now (work .entry))) (rooms (now (tree .exit)) goals ps (now (work .entry))) (k .0) st r) ⌝ }
@@ -119,7 +120,7 @@ pub fn syn_ident(file: &[u8], tree: &mut [u8], work: &[u8], k: Term, st: State) 
 pub fn syn_unit(file: &[u8], tree: &mut [u8], props: &mut [u8], k: Term, st: State) -> Synthesized
     requires { ⌜ Table (now file) × (st .made ≤ limit) ⌝ }
     requires { ⌜ Loaded (now file) (now props) (countOf (now file) st) ⌝ }
-    requires { ⌜ (16 * (st .records) + 16 ≤ length (now tree)) × (st .records < 65535) ⌝ }
+    requires { ⌜ (16 * (st .records) + 16 ≤ length (now tree)) × (st .records < largest) ⌝ }
     requires { ⌜ termRecord (now file) (k .0) .kind ≡ 11 ⌝ }
     ensures { λ r. ⌜ ((goals work : List ℕ) → Ready (now (file .entry)) (rooms (now (tree .entry)) goals (now (props .entry)) work) (k .0) st → SynthMeets (now (file .entry)) (rooms (now (tree .entry)) goals (now (props .entry)) work) (rooms (now (tree .exit)) goals (now (props .exit)) work) (k .0) st r) ⌝ }
 {

@@ -4,6 +4,7 @@ ghost use mathlib.Core.Path.{_≡_};
 ghost use mathlib.Core.List.{List};
 ghost use Prim.Native.Nat.{ℕ, _+_, _*_, _<_, _≤_};
 ghost use lib.ListN.{length};
+ghost use Rattle.number.specs.Limits.{largest};
 ghost use Rattle.rules.specs.State.{limit};
 ghost use Rattle.layout.specs.File.{terms};
 ghost use Rattle.prop.specs.Room.{TypeIn};
@@ -65,7 +66,7 @@ pub enum Abstracted {
 
 // The counts once there are `end` propositions where there were `count`.
 pub fn grown(st: State, count: u16, end: u16) -> State
-    requires { ⌜ (count ≤ end) × (st .made + end ≤ 65535) ⌝ }
+    requires { ⌜ (count ≤ end) × (st .made + end ≤ largest) ⌝ }
     ensures { λ r. ⌜ (r .made + count ≡ st .made + end) × (r .records ≡ st .records) × (r .goals ≡ st .goals) × (r .serials ≡ st .serials) × (r .context ≡ st .context) ⌝ }
 {
     State {

@@ -2,6 +2,7 @@
 ghost use mathlib.Core.Path.{_≡_};
 ghost use Prim.Native.Nat.{_+_, _<_, _≤_};
 ghost use lib.ListN.{length};
+ghost use Rattle.number.specs.Limits.{largest};
 ghost use Rattle.rules.specs.State.{limit};
 ghost use Rattle.layout.specs.File.{props, terms, termRecord};
 ghost use Rattle.making.specs.Copy.{«most-records»};
@@ -54,7 +55,7 @@ pub fn left_of(st: State) -> u16
 
 // Premises stand behind their parent's record, which is written last.
 pub fn inner(st: State) -> State
-    requires { ⌜ st .records < 65535 ⌝ }
+    requires { ⌜ st .records < largest ⌝ }
     ensures { λ r. ⌜ r ≡ inner st ⌝ }
 {
     State {

@@ -1,4 +1,4 @@
--- The limits of document 01's file format, by the names that the number types' constants have.
+-- The limits of document 01's file format, by the names that the number types' constants have, and the largest number of two bytes.
 -- Assumes nothing.
 use Prim.Native.Nat.{ℕ, _*_}
 
@@ -19,3 +19,7 @@ most-depth = 64
 -- a field that holds no number
 abbrev pub none : ℕ
 none = 65535
+
+-- the largest 16-bit number: no count passes it
+abbrev pub largest : ℕ
+largest = 65535

@@ -1,6 +1,7 @@
 // Fresh numbers, as in the original's util/counter.rs. The counter goes in by value and comes back one further.
 ghost use mathlib.Core.Path.{_≡_};
 ghost use Prim.Native.Nat.{_+_, _<_};
+ghost use Rattle.number.specs.Limits.{largest};
 
 pub struct Counter {
     pub count: u16,
@@ -19,7 +20,7 @@ impl Counter {
     }
 
     pub fn next_value(self) -> Counted
-        requires { ⌜ self .count < 65535 ⌝ }
+        requires { ⌜ self .count < largest ⌝ }
         ensures { λ r. ⌜ (r .value ≡ self .count) × (r .counter .count ≡ self .count + 1) ⌝ }
     {
         Counted {

@@ -5,7 +5,7 @@
  *
  * What is proved of each function is its contract in crates/export/src/lib.rt. What a caller must see to, since no contract can:
  *
- *   - Each pointer is not null, for a length of 0 either, and so many bytes behind it belong to the caller; no length is above SIZE_MAX / 2.
+ *   - Each pointer is not null, not even for a length of 0, and so many bytes behind it belong to the caller; no length is above SIZE_MAX / 2.
  *   - No room shares a byte with another room or with a table. Two tables may share bytes: they are only read.
  *   - Nothing else writes to the tables, and nothing else reads or writes the rooms, until the call is back. (Calls in several threads, each with rooms of
  *     its own, do not disturb each other.)
@@ -64,7 +64,7 @@ extern "C" {
 
 /* A REFUSAL'S NUMBER. Tests 1 to 7 come in this order; the rest are the rules', and of those the first counts. Where there are two numbers for one thing,
  * the second is given where a type is found rather than tested. The place is 0 for 1 to 3 and 31; for 4 to 7 the lowest guilty record, propositions
- * counted before terms; from 10 to 30 a term.
+ * counted before terms, and 0 for a wrong expected field; from 10 to 30 a term.
  *
  *    1      a room is too short
  *    2      fewer than 16 bytes, or a wrong header
@@ -109,8 +109,8 @@ extern "C" {
  *   bytes 6   0 */
 #define SPOREKETTLE_GOAL_RECORD 8
 
-/* THE PROPOSITIONS ROOM: 16 bytes a record as in the table, the table's first, then the made ones. Bytes 4 of an atom give the kinds of its parameters, two bits
- * each, the first lowest: 0 a free name, 1 a serial, 2 bound; a bound parameter is the number of quantifiers between the atom and its own. */
+/* THE PROPOSITIONS ROOM: 16 bytes a record as in the table, the table's first, then the made ones. In bytes 4 of an atom stand what its parameters are,
+ * in two bits each from the lowest up: 0 a free name, 1 a serial, 2 bound. Of a bound one the atom has the number of quantifiers that stand between. */
 
 /* The mark of a table: it holds its root to its expected proposition. */
 uint32_t sporekettle_check(const uint8_t *table, size_t table_length,
@@ -120,8 +120,8 @@ uint32_t sporekettle_check(const uint8_t *table, size_t table_length,
                            uint8_t *work, size_t work_length,
                            uint8_t *answer, size_t answer_length);
 
-/* Fills goal number `goal` of a table, from 0. Accepted: the rooms have the filling's own tree and goals, the propositions made up to its end, and the edited
- * table, whose length is 16 and 16 for each proposition and term that its header counts. A refusal's place from the filling's run on is the edited table's. */
+/* Fills goal number `goal` of a table, from 0. Accepted: tree and goals are those of the filling alone, the propositions all that were made until
+ * the filling was done, and the edited room has the edited table, whose length is 16 and 16 for each proposition and term that its header counts. From the edited table's tests on, a refusal's place is in that table. */
 uint32_t sporekettle_fill(const uint8_t *old, size_t old_length,
                           uint16_t goal,
                           const uint8_t *filling, size_t filling_length,

@@ -13,8 +13,10 @@ fn main() {
     let library = library();
     // A file that is not there counts as changed, so the next build looks for it again.
     println!("cargo:rerun-if-changed={}", library.display());
-    if variable("CARGO_CFG_TARGET_ARCH") != "x86_64" {
-        stop("the static library is for x86-64: build with `--target x86_64-unknown-linux-gnu`");
+    let target =
+        ["ARCH", "OS", "POINTER_WIDTH"].map(|of| variable(&format!("CARGO_CFG_TARGET_{of}")));
+    if target != ["x86_64", "linux", "64"] {
+        stop("the static library is for Linux on x86-64: build with `--target x86_64-unknown-linux-gnu`");
     }
     if !library.is_file() {
         stop(&format!(

@@ -15,8 +15,9 @@ impl Answer {
     fn of(call: impl FnOnce(&mut [u8]) -> u32) -> Answer {
         let mut bytes = [0; raw::ANSWER];
         let returned = call(&mut bytes);
-        // The room is long enough, so the library has answered.
-        debug_assert_eq!(returned, raw::ANSWERED);
+        // The room is long enough, so the library has answered. If it is another library that was
+        // linked, zeros must not pass for an acceptance.
+        assert_eq!(returned, raw::ANSWERED);
         Answer(bytes)
     }
 

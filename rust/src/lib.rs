@@ -6,7 +6,7 @@
 //! the [`Goals`] that were left open; [`fill`] fills one of them with a second table. A [`Refusal`]
 //! says why and where. Any bytes may be given to any function: none of them panics.
 //!
-//! The library asks for no memory and keeps nothing between calls. It works in [`Rooms`] that the
+//! The library asks for no memory but its stack ([`STACK`]), and keeps nothing between calls. It works in [`Rooms`] that the
 //! caller lends; [`Space`] is a set of them. Answers borrow the rooms and are read in place.
 //!
 //! There are four kinds of number, each a type of its own: [`Name`], [`Serial`],
@@ -68,7 +68,7 @@ pub use goals::{Goal, Goals};
 pub use number::{Name, PropositionNumber, Serial, Term};
 pub use proposition::{Kind, Parameter, Parameters, Proposition, Propositions};
 pub use refusal::{Place, Refusal, Which};
-pub use rooms::{Rooms, Space, EDITED, GOALS, PROPOSITIONS, TEST_WORK, TREE, WORK};
+pub use rooms::{Rooms, Space, EDITED, GOALS, PROPOSITIONS, STACK, TEST_WORK, TREE, WORK};
 pub use tree::{Conclusion, Node, Premises, Rule, Serials, Tree};
 
 use accepted::{propositions_of, terms_of, RECORD};

@@ -14,6 +14,10 @@ pub const EDITED: usize = 49_152;
 /// [`test_filling`](crate::test_filling).
 pub const TEST_WORK: usize = 2_048;
 
+/// The stack that a call may need at most, in bytes: measured and tested, not proved. Threads have
+/// more than that unless they were asked to have less.
+pub const STACK: usize = 262_144;
+
 /// Four rooms that are lent to a call. They need not be cleared.
 ///
 /// Any lengths may be lent. A room that is shorter than its constant is refusal 1. Of a longer one

@@ -252,6 +252,14 @@ static void short_answer(struct table t, size_t length)
     nothing_done(test(t, 1, length));
 }
 
+static void short_test(struct table t, int filling, size_t length)
+{
+    soil();
+    lent[WORK] = length;
+    refused_1(test(t, filling, sizeof answer));
+    look(WORK, 0, SPOREKETTLE_TEST_WORK);
+}
+
 static void short_rooms(void)
 {
     struct table t = next_table(next_word());
@@ -260,10 +268,8 @@ static void short_rooms(void)
         short_room(t, i, 0);
     }
     for (int filling = 0; filling < 2; filling++) {
-        soil();
-        lent[WORK] = SPOREKETTLE_TEST_WORK - 1;
-        refused_1(test(t, filling, sizeof answer));
-        look(WORK, 0, SPOREKETTLE_TEST_WORK);
+        short_test(t, filling, SPOREKETTLE_TEST_WORK - 1);
+        short_test(t, filling, 0);
     }
     for (size_t length = 0; length < SPOREKETTLE_ANSWER; length++)
         short_answer(t, length);

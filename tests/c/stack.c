@@ -1,5 +1,6 @@
 /* stack TABLE FILLING: how deep a stack the library needs. Both calls run on a stack of their own, painted beforehand: a check of the table, and the filling of its
- * goal 0. The depth is what was painted over. Prints the answers and the depths; the status is 1 where one is above the header's number. */
+ * goal 0. The depth is what was painted over. Prints the answers and the depths. The status is 1 where a depth is above the header's number, or
+ * where the script is not such a one: not accepted, or not deep. */
 #include <pthread.h>
 #include <stdio.h>
 #include <stdlib.h>
@@ -9,6 +10,7 @@
 
 #define PAINT 0x5a
 #define STACK (1 << 20)
+#define DEEP (1 << 16)
 
 static uint8_t stack[STACK] __attribute__((aligned(4096)));
 static uint8_t table[65536], filling[65536];
@@ -60,7 +62,7 @@ static int tell(const char *name, void *(*what)(void *))
     else
         printf("%s: refused %u", name, answer[1]);
     printf(", %zu bytes of stack\n", deep);
-    return deep > SPOREKETTLE_STACK;
+    return answer[0] != SPOREKETTLE_ACCEPTED || deep < DEEP || deep > SPOREKETTLE_STACK;
 }
 
 static size_t read_file(const char *path, uint8_t *bytes, size_t size)

@@ -80,7 +80,7 @@ def moved_term(record, p, t):
 
 
 def edited(old, filling, hole):
-    """The filling's root replaces the Sorry record; its other records go to the end of their kind, links moved."""
+    """The old table with the filling in it: the root where the Sorry was, every other record behind the old ones of its sort, and the links after them."""
     props, terms = records(old)
     p, t = len(props), len(terms)
     more_props, more_terms = records(filling)

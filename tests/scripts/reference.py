@@ -38,7 +38,7 @@ class Unknown(Exception):
 # Propositions
 
 def read(table, number, binders=()):
-    """A record of the table as a tuple. A name is bound by the nearest quantifier above it with that object name."""
+    """A record of the table as a tuple. Going up from an atom, the first quantifier over a name binds it."""
     record = table.props[number]
     sign = SIGNS[record.kind]
     if sign in "TF":

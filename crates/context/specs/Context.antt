@@ -1,5 +1,4 @@
--- Document 01, "The rules" (names are looked up from the latest entry) and "The shape of each place" (a type is held inside each context
--- entry): the entries that bytes hold, and the context of the rules that they stand for.
+-- Document 01, "The rules" (lookup begins with the entry that came last) and "The shape of each place" (an entry holds its type): the entries that bytes hold, and the context of the rules that they stand for.
 -- Assumes nothing.
 use mathlib.Core.Path.{_≡_}
 use mathlib.Core.List.{List, [], _∷_}

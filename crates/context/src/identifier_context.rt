@@ -83,7 +83,7 @@ pub fn insert(work: &mut [u8], len: usize, e: Entry)
     put_word(work, at + 6, number_of(typ));
 }
 
-// Document 01: names are looked up from the latest entry.
+// Document 01: of entries with one name the one that came last counts.
 pub fn get_by_name(work: &[u8], len: usize, name: Name) -> Found
     requires { ⌜ 8 * len ≤ length (now work) ⌝ }
     ensures { λ r. ⌜ Latest (now (work .entry)) len (name .0) r ⌝ }

@@ -1,5 +1,5 @@
--- Document 01, "Tree, goals, filling": the edited table. The filling's root takes the place of the old table's Sorry record, its other records go to
--- the end of their kind, and links move with the records. Names, datatypes and predicates stay.
+-- Document 01, "Tree, goals, filling": the edited table. Where the old table has the Sorry record it has the filling's root; all other records of the filling
+-- stand behind the old ones of their sort, and each link follows its record. Names, datatypes and predicates stay.
 -- Assumes nothing.
 use mathlib.Core.Path.{_≡_}
 use mathlib.Core.Bool.{cond}

@@ -42,7 +42,7 @@ pub record Refuses (S S' : Lent) (n p : ℕ) (w : Which) (r : Filled) : Type 0 w
   pub rooms : Emptied (S .rooms) (S' .rooms)
   pub edited : S' .edited ≡ cleared edited-bytes (S .edited)
 
--- AN ACCEPTANCE: the filling's own tree and goals, the propositions made up to its end, and the edited table e
+-- AN ACCEPTANCE: tree and goals of the filling alone, all propositions that were made until it was done, and the edited table e
 abbrev pub countsFrom : Gap → Answer → St → Counts
 countsFrom g b st = record { records = records (b .tree); goals = holes (b .tree); serials = st .serials - g .state .serials; made = st .made }
 

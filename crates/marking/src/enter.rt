@@ -19,7 +19,7 @@ pub struct Fresh {
     pub state: State,
 }
 
-// A new identifier of that name: serials count from 0 in order of creation.
+// A new identifier of that name, with the next serial.
 pub fn new_identifier(st: State, name: Name) -> Fresh
     requires { ⌜ st .serials < largest ⌝ }
     ensures { λ r. ⌜ (r .identifier .name ≡ name) × (r .identifier .serial .0 ≡ st .serials) × (r .state ≡ numbered st) ⌝ }

@@ -1,5 +1,5 @@
--- Document 01, "Tree, goals, filling": the propositions room holds the table's records and then the made ones, as in the file, but that an
--- atom's b gives the kinds of its parameters. What a record number stands for, and what a room is whose first c records are propositions.
+-- Document 01, "Tree, goals, filling": the propositions room. First come the table's records, behind them those that a run made; in an atom, b now says
+-- of what kind each parameter is. What a record number stands for, and what a room is whose first c records are propositions.
 -- Assumes nothing.
 use mathlib.Core.Path.{_≡_}
 use mathlib.Core.Bool.{Bool, true, false, _&&_, cond}

@@ -47,7 +47,7 @@ binders-within (suc f) l n = above l (parent l n) (binders-within f l)
 unfoldable pub binders : List ℕ → ℕ → List ℕ
 binders l n = binders-within (props l) l n
 
--- a name is bound by the nearest quantifier above it with that object name: k quantifiers stand between
+-- of the quantifiers above that have this object name the nearest binds; k others stand between
 unfoldable pub settled : ℕ → ℕ → List ℕ → Param
 settled x k [] = free x
 settled x k (y ∷ ys) = cond (eqb x y) (bound k) (settled x (suc k) ys)

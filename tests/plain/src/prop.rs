@@ -108,10 +108,6 @@ impl Props {
         }
     }
 
-    pub fn has_free(&self, n: u16) -> bool {
-        self.any_param(n, &|param| matches!(param, Param::Free(_)))
-    }
-
     pub fn has_serial(&self, n: u16, serial: u16) -> bool {
         self.any_param(n, &|param| param == Param::Serial(serial))
     }

@@ -1,6 +1,5 @@
 //! Tables: how their bytes are read, and tests 2 to 7.
 
-use crate::prop::Props;
 use crate::Refusal;
 
 pub const HEADER: usize = 16;
@@ -292,10 +291,31 @@ impl Table {
     }
 
     fn test_closed(&self) -> Result<(), Refusal> {
-        if Props::load(self).has_free(self.expected) {
+        if !self.is_closed(self.expected, &mut Vec::new()) {
             return Err(Refusal::new(7, self.expected));
         }
         Ok(())
+    }
+
+    /// Whether every name in a proposition is bound, there or by a quantifier above with that name.
+    fn is_closed(&self, n: u16, bound: &mut Vec<u16>) -> bool {
+        let record = &self.props[n as usize];
+        let [name, _, body, parameters @ ..] = &record.fields;
+        match record.kind {
+            5 | 6 => {
+                bound.push(*name);
+                let closed = self.is_closed(*body, bound);
+                bound.pop();
+                closed
+            }
+            7 => parameters[..record.tag as usize]
+                .iter()
+                .all(|parameter| bound.contains(parameter)),
+            _ => record
+                .parts()
+                .iter()
+                .all(|&part| self.is_closed(part, bound)),
+        }
     }
 
     /// The bytes that this table is written as.

@@ -121,7 +121,8 @@ uint32_t sporekettle_check(const uint8_t *table, size_t table_length,
                            uint8_t *answer, size_t answer_length);
 
 /* Fills goal number `goal` of a table, from 0. Accepted: tree and goals are those of the filling alone, the propositions all that were made until
- * the filling was done, and the edited room has the edited table, whose length is 16 and 16 for each proposition and term that its header counts. From the edited table's tests on, a refusal's place is in that table. */
+ * the filling was done, and the edited room has the edited table, whose length is 16 and 16 for each proposition and term that its header counts.
+ * From the edited table's tests on, a refusal's place is in that table. */
 uint32_t sporekettle_fill(const uint8_t *old, size_t old_length,
                           uint16_t goal,
                           const uint8_t *filling, size_t filling_length,

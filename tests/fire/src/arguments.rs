@@ -3,7 +3,7 @@
 use crate::seeds::Seeds;
 
 pub const USAGE: &str =
-    "fire [--seed N] [--inputs N | --seconds N | forever] [--first I] [--seeds FILE..]";
+    "fire [--seed N] [--inputs N | --seconds N | forever] [--first I] [--cover N] [--seeds FILE..]";
 
 pub enum Until {
     Inputs(u64),
@@ -15,6 +15,8 @@ pub struct Arguments {
     pub seed: u64,
     pub first: u64,
     pub until: Until,
+    /// How many inputs there must have been at the end, and among them every refusal and every rule.
+    pub cover: Option<u64>,
     pub seeds: Seeds,
 }
 
@@ -24,6 +26,7 @@ pub fn read(arguments: impl Iterator<Item = String>) -> Result<Arguments, String
         seed: 1,
         first: 0,
         until: Until::Seconds(60),
+        cover: None,
         seeds: Seeds::default(),
     };
     while let Some(argument) = arguments.next() {
@@ -37,6 +40,7 @@ pub fn read(arguments: impl Iterator<Item = String>) -> Result<Arguments, String
         match argument.as_str() {
             "--seed" => read.seed = number()?,
             "--first" => read.first = number()?,
+            "--cover" => read.cover = Some(number()?),
             "--inputs" => read.until = Until::Inputs(number()?),
             "--seconds" => read.until = Until::Seconds(number()?),
             "forever" => read.until = Until::Forever,

@@ -2,7 +2,7 @@
 
 use crate::call::{self, Lent};
 use crate::input::{Entry, Input, ANSWER, EDITED, SIZES};
-use crate::judge::{cleared, same_answer, same_results, used, words, Results};
+use crate::judge::{cleared, same_answer, same_results, used, Results};
 use crate::random::Random;
 use crate::room::{Noise, Room, TableRoom, LONGER};
 use crate::same::Meanings;
@@ -21,12 +21,15 @@ pub struct Bench {
     meanings: Meanings,
     /// The used bytes that an input's first run left, for its second.
     first: Vec<u8>,
+    /// The tree of the last input, if it was accepted.
+    tree: Vec<u8>,
 }
 
 /// What an input came to.
 pub struct Outcome {
     pub answer: Answer,
-    pub demanded: bool,
+    /// The check of the edited table, if the filling was held against one.
+    pub edited: Option<Answer>,
 }
 
 impl Bench {
@@ -40,6 +43,7 @@ impl Bench {
             judge: SIZES.map(|size| vec![0; size + LONGER]),
             meanings: Meanings::default(),
             first: Vec::new(),
+            tree: Vec::new(),
         }
     }
 
@@ -53,8 +57,9 @@ impl Bench {
 
     pub fn run(&mut self, random: &mut Random, input: &Input) -> Result<Outcome, String> {
         let answer = self.judged(input);
+        self.keep_tree(&answer);
         self.once(random, input, &answer)?;
-        let mut demanded = false;
+        let mut edited = None;
         if input.answer >= ANSWER {
             if input.twice {
                 self.again(random, input, &answer)?;
@@ -62,18 +67,22 @@ impl Bench {
             if let (Entry::Fill, Answer::Accepted(counts), true) =
                 (input.entry, answer, input.demand)
             {
-                self.demand(random, input, &counts)?;
-                demanded = true;
+                edited = Some(self.demand(random, input, &counts)?);
             }
         }
-        Ok(Outcome { answer, demanded })
+        Ok(Outcome { answer, edited })
     }
 
-    /// The tree of the last input, if it was accepted.
-    pub fn tree(&self, outcome: &Outcome) -> &[u8] {
-        match outcome.answer {
-            Answer::Accepted(counts) => &self.judge[0][..16 * usize::from(counts.records)],
-            Answer::Refused { .. } => &[],
+    /// The records of the last input's tree; none if it was refused.
+    pub fn tree(&self) -> &[u8] {
+        &self.tree
+    }
+
+    fn keep_tree(&mut self, answer: &Answer) {
+        self.tree.clear();
+        if let Answer::Accepted(counts) = answer {
+            let length = 16 * usize::from(counts.records);
+            self.tree.extend_from_slice(&self.judge[0][..length]);
         }
     }
 
@@ -168,8 +177,8 @@ impl Bench {
         if let Some(at) = self.answer.touched() {
             return Err(format!("byte {at} of the answer room was touched"));
         }
-        if !self.table.holds(&input.table) || !self.filling.holds(&input.filling) {
-            return Err("a table was changed".to_string());
+        if !self.table.stayed() || !self.filling.stayed() {
+            return Err("a table was changed, or a byte beside one".to_string());
         }
         Ok(())
     }
@@ -250,23 +259,23 @@ impl Bench {
         random: &mut Random,
         input: &Input,
         filling: &plain::Counts,
-    ) -> Result<(), String> {
+    ) -> Result<Answer, String> {
         let fronts = self.fronts(input, &Answer::Accepted(*filling))?;
         let edited = self.rooms[EDITED].written()[..fronts[EDITED]].to_vec();
-        let old = self.checked(random, &input.table);
-        let new = self.checked(random, &edited);
-        demand_holds(&old, filling, &new)
+        let old = self.checked(random, &input.table, "old")?;
+        let new = self.checked(random, &edited, "edited")?;
+        demand_holds(&old, filling, &new)?;
+        Ok(new)
     }
 
-    /// The library's answer to a check.
-    fn checked(&mut self, random: &mut Random, table: &[u8]) -> [u8; 16] {
+    /// The answer to a check, on which both have to agree as on any other.
+    fn checked(&mut self, random: &mut Random, table: &[u8], name: &str) -> Result<Answer, String> {
         let mut input = Input::new();
         input.table.extend_from_slice(table);
-        self.prepare(random, &input);
-        self.call(&input);
-        let mut answer = [0; 16];
-        answer.copy_from_slice(&self.answer.written()[..16]);
-        answer
+        let answer = self.judged(&input);
+        self.once(random, &input, &answer)
+            .map_err(|problem| format!("a check of the {name} table: {problem}"))?;
+        Ok(answer)
     }
 
     /// The rooms of this input, the answer room last.
@@ -308,21 +317,20 @@ fn too_short() -> Answer {
     }
 }
 
-pub fn demand_holds(old: &[u8; 16], filling: &plain::Counts, new: &[u8; 16]) -> Result<(), String> {
-    let word = |answer: &[u8; 16], at: usize| u16::from_le_bytes([answer[at], answer[at + 1]]);
-    let added = |at: usize, more: u16, fewer: u16| {
-        u32::from(word(old, at)) + u32::from(more) == u32::from(word(new, at)) + u32::from(fewer)
+pub fn demand_holds(old: &Answer, filling: &plain::Counts, new: &Answer) -> Result<(), String> {
+    let holds = match (old, new) {
+        (Answer::Accepted(old), Answer::Accepted(new)) => {
+            old.records + filling.records == new.records + 1
+                && old.goals + filling.goals == new.goals + 1
+                && old.serials + filling.serials == new.serials
+        }
+        (Answer::Accepted(_), Answer::Refused { number, .. }) => *number == 30,
+        (Answer::Refused { .. }, _) => false,
     };
-    let refused = new[0] == 1 && new[1] == 30;
-    let accepted = new[0] == 0
-        && added(8, filling.records, 1)
-        && added(10, filling.goals, 1)
-        && added(12, filling.serials, 0);
-    if old[0] == 0 && (refused || accepted) {
+    if holds {
         return Ok(());
     }
-    let (old, new) = (words(old), words(new));
     Err(format!(
-        "old table: {old}; filling: {filling:?}; a check of the edited table: {new}"
+        "old table: {old:?}; filling: {filling:?}; a check of the edited table: {new:?}"
     ))
 }

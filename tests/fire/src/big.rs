@@ -15,7 +15,10 @@ impl Maker<'_> {
             1 => self.make_high(),
             2 => self.make_wide(),
             3 => self.make_many_propositions(),
-            4 | 5 => self.make_near_the_limit(),
+            4 | 5 => {
+                let unit = self.term(UNIT, &[]);
+                self.make_near_the_limit(unit);
+            }
             6 => self.make_shared(),
             _ => {
                 self.most = self.random.between(150, 515);
@@ -33,7 +36,7 @@ impl Maker<'_> {
         self.script.proposition(Record::default())
     }
 
-    fn ascribed_truth(&mut self, inside: u16) -> u16 {
+    pub fn ascribed_truth(&mut self, inside: u16) -> u16 {
         let of = self.spelled_truth();
         self.script
             .term(Record::term(ASCRIPTION, &[inside]).typed(1, of))
@@ -234,8 +237,9 @@ impl Maker<'_> {
             .term(Record::term(LET, &[head, body]).named(2, 3))
     }
 
-    /// `fun x. fun h. fst (unit, ((h x, h x), ..))`: as many instances as make about 2,048 propositions.
-    fn make_near_the_limit(&mut self) {
+    /// `fun x. fun h. fst (proof, ((h x, h x), ..))`: as many instances as make about 2,048 propositions. `proof` is of
+    /// True, and makes one.
+    pub fn make_near_the_limit(&mut self, proof: u16) {
         let nodes = 2 * self.random.between(8, 26) + 1;
         let known = self.long_quantifier(nodes);
         let truth = self.truth();
@@ -262,8 +266,8 @@ impl Maker<'_> {
         if self.random.one_in(2) {
             row.push(self.edge(known));
         }
-        let (unit, joined) = (self.term(UNIT, &[]), self.joined(row));
-        let pair = self.term(PAIR, &[unit, joined]);
+        let joined = self.joined(row);
+        let pair = self.term(PAIR, &[proof, joined]);
         let first = self.term(FIRST, &[pair]);
         let inner = self.script.term(annotated(None, first).named(1, 0));
         let outer = self.script.term(annotated(None, inner).named(0, 0));

@@ -14,6 +14,8 @@ pub struct Counts {
     no_answer: u64,
     twice: u64,
     demanded: u64,
+    /// Of these, checks of the edited table that were refused 30.
+    late: u64,
     /// How often each rule stood in an accepted tree, and how many trees were how long.
     rules: [u64; 17],
     lengths: [u64; 5],
@@ -53,7 +55,8 @@ impl Counts {
             return;
         }
         self.twice += u64::from(input.twice);
-        self.demanded += u64::from(outcome.demanded);
+        self.demanded += u64::from(outcome.edited.is_some());
+        self.late += u64::from(matches!(outcome.edited, Some(Answer::Refused { .. })));
         let entry = input.entry as usize;
         match outcome.answer {
             Answer::Accepted(counts) => {
@@ -121,12 +124,41 @@ impl Counts {
         table
     }
 
+    /// What was not tried, if it had to be: so many inputs, every number that can be given, and every rule.
+    pub fn covers(&self, inputs: u64) -> Result<(), String> {
+        let mut missing = Vec::new();
+        if self.inputs < inputs {
+            missing.push(format!("{} more inputs", inputs - self.inputs));
+        }
+        for (number, of) in self.refused.iter().enumerate() {
+            if of.iter().sum::<u64>() == 0 && !NEVER.contains(&number) {
+                missing.push(format!("refusal {number}"));
+            }
+        }
+        if self.late == 0 {
+            missing.push("a filling after which the edited table is refused 30".to_string());
+        }
+        let rules = RULES.iter().zip(self.rules);
+        missing.extend(
+            rules
+                .filter(|(_, many)| *many == 0)
+                .map(|(rule, _)| format!("rule {rule}")),
+        );
+        if missing.is_empty() {
+            return Ok(());
+        }
+        Err(format!(
+            "too little was tried; wanting: {}",
+            missing.join(", ")
+        ))
+    }
+
     pub fn line(&self) -> String {
         let checks = Entry::Check as usize;
         let refused: u64 = self.refused.iter().map(|of| of[checks]).sum();
         format!(
             "{} inputs, {} of {} checks accepted, {} acceptances with goals, {} with a short room, {} with a short \
-             answer room, {} run twice, {} fillings held against a check",
+             answer room, {} run twice, {} fillings held against a check, {} of these refused 30",
             self.inputs,
             self.accepted[checks],
             self.accepted[checks] + refused,
@@ -134,7 +166,8 @@ impl Counts {
             self.short,
             self.no_answer,
             self.twice,
-            self.demanded
+            self.demanded,
+            self.late
         )
     }
 }

@@ -120,19 +120,34 @@ fn swap_fields(random: &mut Random, bytes: &mut [u8]) {
 
 /// Another name, datatype or predicate in a record, or another parameter.
 fn name(random: &mut Random, bytes: &mut [u8]) {
-    let Some(at) = record(random, bytes) else {
+    let (Some(at), Some(other)) = (record(random, bytes), record(random, bytes)) else {
         return;
     };
-    let propositions = 16 * (1 + word(bytes, 6) as usize);
-    let fields: &[usize] = match (at < propositions, bytes[at]) {
-        (true, 5 | 6) => &[2, 4],
-        (true, 7) if bytes[at + 1] > 0 => &[2, 8],
-        (true, 7) => &[2],
-        (false, 0 | 4) => &[4],
-        (false, 6 | 9) => &[4, 6],
-        _ => return,
+    let (fields, others) = (names(bytes, at), names(bytes, other));
+    if fields.is_empty() {
+        return;
+    }
+    let field = at + random.pick(fields);
+    let value = match random.below(4) {
+        0 => word(bytes, field) ^ (256 << random.below(8)),
+        1 | 2 if !others.is_empty() => word(bytes, other + random.pick(others)),
+        _ => random.small(6),
     };
-    set(bytes, at + random.pick(fields), random.small(6));
+    set(bytes, field, value);
+}
+
+/// Which bytes of the record at `at` begin a name, a datatype or a predicate.
+pub fn names(bytes: &[u8], at: usize) -> &'static [usize] {
+    let propositions = 16 * (1 + word(bytes, 6) as usize);
+    match (at < propositions, bytes[at], bytes[at + 1]) {
+        (true, 5 | 6, _) => &[2, 4],
+        (true, 7, many) => &[2, 8, 10, 12, 14][..1 + usize::from(many.min(4))],
+        (false, 4, 2) => &[2, 4],
+        (false, 0 | 4, _) => &[4],
+        (false, 6 | 9, _) => &[4, 6],
+        (false, 12, 2) => &[2],
+        _ => &[],
+    }
 }
 
 fn extend(random: &mut Random, bytes: &mut Vec<u8>) {

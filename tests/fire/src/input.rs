@@ -1,9 +1,10 @@
 //! What is tried: an entry, its tables, and how long each lent room is.
 
+use crate::names::Names;
 use crate::proof::{Hole, Maker};
 use crate::random::Random;
 use crate::room::LONGER;
-use crate::script::{Record, IDENT, NONE};
+use crate::script::{Record, IDENT, NONE, SORRY};
 use crate::seeds::Seeds;
 use crate::{damage, hostile};
 
@@ -41,6 +42,8 @@ pub struct Input {
     pub twice: bool,
     /// Whether an accepted filling is held against a check of the edited table.
     pub demand: bool,
+    /// The numbers that stand for names in its made tables.
+    names: Names,
 }
 
 impl Input {
@@ -54,6 +57,7 @@ impl Input {
             answer: ANSWER,
             twice: false,
             demand: false,
+            names: Names::default(),
         }
     }
 
@@ -81,13 +85,14 @@ impl Input {
         self.lend(random, index);
         self.twice = random.one_in(16);
         self.demand = random.one_in(6);
+        self.names.begin(random);
         self.table.clear();
         self.filling.clear();
         match self.entry {
-            Entry::Check => check_table(random, seeds, &mut self.table),
+            Entry::Check => check_table(random, &mut self.names, seeds, &mut self.table),
             Entry::Fill => self.make_fill(random, seeds),
             Entry::TestTable => {
-                check_table(random, seeds, &mut self.table);
+                check_table(random, &mut self.names, seeds, &mut self.table);
                 if random.one_in(2) {
                     damage::table(random, &mut self.table);
                 }
@@ -150,8 +155,9 @@ impl Input {
         match random.below(32) {
             0..=2 if !seeds.triples.is_empty() => self.stored_fill(random, seeds),
             3 | 4 => self.deep_fill(random),
+            7 => self.late_fill(random),
             5 => {
-                check_table(random, seeds, &mut self.table);
+                check_table(random, &mut self.names, seeds, &mut self.table);
                 self.goal = random.small(3);
                 self.make_filling_alone(random, seeds);
             }
@@ -177,12 +183,36 @@ impl Input {
         let (outer, inner) = (random.between(20, 62), random.between(62, 68));
         let mut maker = Maker::new(random);
         maker.make_deep(outer);
-        maker.script.write(maker.random, &mut self.table);
+        maker
+            .script
+            .write(maker.random, &mut self.names, &mut self.table);
         maker.script.clear();
         maker.make_deep(inner.saturating_sub(outer));
         maker.script.expected = NONE;
-        maker.script.write(maker.random, &mut self.filling);
+        maker
+            .script
+            .write(maker.random, &mut self.names, &mut self.filling);
         self.goal = 0;
+    }
+
+    /// A hole before some 2,048 made propositions: what the filling makes may leave too little for the terms behind it.
+    fn late_fill(&mut self, random: &mut Random) {
+        let depth = random.between(1, 6);
+        let mut maker = Maker::new(random);
+        let sorry = maker.term(SORRY, &[]);
+        let open = maker.ascribed_truth(sorry);
+        maker.make_near_the_limit(open);
+        maker
+            .script
+            .write(maker.random, &mut self.names, &mut self.table);
+        maker.script.clear();
+        maker.make_deep(depth);
+        maker.script.expected = NONE;
+        maker
+            .script
+            .write(maker.random, &mut self.names, &mut self.filling);
+        self.goal = 0;
+        self.demand = true;
     }
 
     /// A made script with goals, and a filling for one of them.
@@ -203,7 +233,9 @@ impl Input {
                 break;
             }
         }
-        maker.script.write(maker.random, &mut self.table);
+        maker
+            .script
+            .write(maker.random, &mut self.names, &mut self.table);
         let chosen = maker.random.below(sorries.len().max(1));
         self.goal = chosen as u16;
         if maker.random.one_in(24) {
@@ -239,7 +271,9 @@ impl Input {
             }
             _ => maker.check(wanted, 1),
         };
-        maker.script.write(maker.random, &mut self.filling);
+        maker
+            .script
+            .write(maker.random, &mut self.names, &mut self.filling);
         match roll {
             5 => damage::table(maker.random, &mut self.filling),
             6 => self.filling.clone_from(&self.table),
@@ -251,7 +285,7 @@ impl Input {
     fn make_filling_alone(&mut self, random: &mut Random, seeds: &Seeds) {
         match random.below(8) {
             0 => hostile::table(random, &mut self.filling),
-            1 => check_table(random, seeds, &mut self.filling),
+            1 => check_table(random, &mut self.names, seeds, &mut self.filling),
             2 if !seeds.triples.is_empty() => {
                 let triple = &seeds.triples[random.below(seeds.triples.len())];
                 self.filling.extend_from_slice(&triple.filling);
@@ -260,7 +294,9 @@ impl Input {
                 let mut maker = Maker::new(random);
                 maker.make();
                 maker.script.expected = NONE;
-                maker.script.write(maker.random, &mut self.filling);
+                maker
+                    .script
+                    .write(maker.random, &mut self.names, &mut self.filling);
             }
         }
         if random.one_in(3) {
@@ -270,16 +306,16 @@ impl Input {
 }
 
 /// A table for a check.
-fn check_table(random: &mut Random, seeds: &Seeds, into: &mut Vec<u8>) {
+fn check_table(random: &mut Random, names: &mut Names, seeds: &Seeds, into: &mut Vec<u8>) {
     into.clear();
     match random.below(100) {
-        0..=50 => made(random, into, |maker| maker.make()),
-        51..=71 => made(random, into, |maker| {
+        0..=50 => made(random, names, into, |maker| maker.make()),
+        51..=71 => made(random, names, into, |maker| {
             maker.slips = maker.random.between(2, 12);
             maker.make();
         }),
         72..=81 => {
-            made(random, into, |maker| maker.make());
+            made(random, names, into, |maker| maker.make());
             damage::table(random, into);
         }
         82..=87 if !seeds.tables.is_empty() => {
@@ -290,12 +326,12 @@ fn check_table(random: &mut Random, seeds: &Seeds, into: &mut Vec<u8>) {
         }
         88..=91 => hostile::table(random, into),
         92..=95 => {
-            made(random, into, |maker| maker.make_big());
+            made(random, names, into, |maker| maker.make_big());
             if random.one_in(8) {
                 damage::table(random, into);
             }
         }
-        _ => made(random, into, |maker| {
+        _ => made(random, names, into, |maker| {
             let root = maker.wild(1);
             let wanted = maker.proposition(3);
             maker.expect(root, wanted);
@@ -303,8 +339,8 @@ fn check_table(random: &mut Random, seeds: &Seeds, into: &mut Vec<u8>) {
     }
 }
 
-fn made(random: &mut Random, into: &mut Vec<u8>, make: impl Fn(&mut Maker)) {
+fn made(random: &mut Random, names: &mut Names, into: &mut Vec<u8>, make: impl Fn(&mut Maker)) {
     let mut maker = Maker::new(random);
     make(&mut maker);
-    maker.script.write(maker.random, into);
+    maker.script.write(maker.random, names, into);
 }

@@ -46,7 +46,7 @@ pub fn answer_bytes(answer: &Answer) -> [u8; 16] {
 }
 
 /// An answer of the library, in words.
-pub fn words(answer: &[u8]) -> String {
+fn words(answer: &[u8]) -> String {
     let word = |at: usize| u16::from_le_bytes([answer[at], answer[at + 1]]);
     match answer[0] {
         0 => format!(

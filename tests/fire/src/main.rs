@@ -12,6 +12,7 @@ mod give;
 mod hostile;
 mod input;
 mod judge;
+mod names;
 mod proof;
 mod prop;
 mod random;
@@ -44,9 +45,13 @@ fn main() -> ExitCode {
             return ExitCode::from(2);
         }
     };
+    println!("seed {}", arguments.seed);
     let begun = Instant::now();
     let mut counts = Counts::default();
-    let ended = fire(&arguments, &mut counts);
+    let ended = fire(&arguments, &mut counts).and_then(|()| match arguments.cover {
+        Some(inputs) => counts.covers(inputs),
+        None => Ok(()),
+    });
     print!("{}{}", counts.table(), counts.trees());
     let seconds = begun.elapsed().as_secs_f64();
     println!(
@@ -85,7 +90,7 @@ fn fire(arguments: &Arguments, counts: &mut Counts) -> Result<(), String> {
         let run = catch_unwind(AssertUnwindSafe(|| bench.run(&mut random, &input)));
         let failed = match run {
             Ok(Ok(outcome)) => {
-                counts.add(&input, &outcome, bench.tree(&outcome));
+                counts.add(&input, &outcome, bench.tree());
                 None
             }
             Ok(Err(problem)) => Some(problem),

@@ -98,6 +98,26 @@ impl Props {
         }
     }
 
+    /// A copy with another datatype, predicate or constant at one place.
+    pub fn nearly(&mut self, random: &mut Random, id: Id) -> Id {
+        let new = match self.get(id) {
+            Prop::Link(kind, left, right) if random.one_in(2) => {
+                Prop::Link(kind, self.nearly(random, left), right)
+            }
+            Prop::Link(kind, left, right) => Prop::Link(kind, left, self.nearly(random, right)),
+            Prop::Quant(kind, name, datatype, body) if random.one_in(2) => {
+                Prop::Quant(kind, name, datatype ^ 1, body)
+            }
+            Prop::Quant(kind, name, datatype, body) => {
+                Prop::Quant(kind, name, datatype, self.nearly(random, body))
+            }
+            Prop::Atom(predicate, count, params) => Prop::Atom(predicate ^ 1, count, params),
+            Prop::True => Prop::False,
+            Prop::False => Prop::True,
+        };
+        self.add(new)
+    }
+
     /// Whether an entry stands in a proposition.
     pub fn holds(&self, id: Id, serial: u16) -> bool {
         match self.get(id) {

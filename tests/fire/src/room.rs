@@ -143,14 +143,17 @@ impl Room {
 pub struct TableRoom {
     bytes: Vec<u8>,
     length: usize,
+    /// All bytes as they were before the call.
+    kept: Vec<u8>,
 }
 
 impl TableRoom {
     pub fn hold(&mut self, table: &[u8], random: &mut Random, noise: &Noise) {
-        self.bytes.clear();
-        self.bytes.extend_from_slice(noise.part(random, GUARD));
-        self.bytes.extend_from_slice(table);
-        self.bytes.extend_from_slice(noise.part(random, GUARD));
+        self.kept.clear();
+        self.kept.extend_from_slice(noise.part(random, GUARD));
+        self.kept.extend_from_slice(table);
+        self.kept.extend_from_slice(noise.part(random, GUARD));
+        self.bytes.clone_from(&self.kept);
         self.length = table.len();
     }
 
@@ -158,8 +161,14 @@ impl TableRoom {
         &mut self.bytes[GUARD..GUARD + self.length]
     }
 
-    pub fn holds(&self, table: &[u8]) -> bool {
-        &self.bytes[GUARD..GUARD + self.length] == table
+    /// Whether the table and the bytes around it are as they were.
+    pub fn stayed(&self) -> bool {
+        self.bytes == self.kept
+    }
+
+    #[cfg(test)]
+    pub fn byte(&mut self, at: isize) -> &mut u8 {
+        &mut self.bytes[(at + GUARD as isize) as usize]
     }
 }
 

@@ -3,6 +3,7 @@
 //! Records stand in any order and may be left over; `write` walks from the root, numbers what it meets, and so writes a
 //! table in which each record is named once.
 
+use crate::names::Names;
 use crate::random::Random;
 
 /// The expected field of a filling.
@@ -73,6 +74,32 @@ impl Record {
         }
     }
 
+    /// The fields of a proposition that are names, datatypes or predicates.
+    fn proposition_names(&self) -> &'static [usize] {
+        match self.kind {
+            ALL | EXISTS => &[0, 1],
+            ATOM => &[0, 3, 4, 5, 6][..1 + self.tag as usize],
+            _ => &[],
+        }
+    }
+
+    /// The fields of a term that are names or datatypes.
+    fn term_names(&self) -> &'static [usize] {
+        match (self.kind, self.tag) {
+            (FUNCTION, 2) => &[0, 1],
+            (IDENT | FUNCTION, _) => &[1],
+            (LET | CASE, _) => &[1, 2],
+            (ASCRIPTION, 2) => &[0],
+            _ => &[],
+        }
+    }
+
+    fn rename(&mut self, names: &[usize], rename: &mut impl FnMut(u16) -> u16) {
+        for &name in names {
+            self.fields[name] = rename(self.fields[name]);
+        }
+    }
+
     fn write(&self, into: &mut Vec<u8>) {
         let mut bytes = [0; 16];
         bytes[0] = self.kind;
@@ -126,8 +153,8 @@ impl Script {
     }
 
     /// Writes the table: parents before children for terms, the other way round for propositions, otherwise in an
-    /// order that `random` chooses.
-    pub fn write(&self, random: &mut Random, into: &mut Vec<u8>) {
+    /// order that `random` chooses. All names go through `names`.
+    pub fn write(&self, random: &mut Random, names: &mut Names, into: &mut Vec<u8>) {
         let shuffled = random.one_in(3);
         let terms = order(random, shuffled, vec![self.root], |t, more| {
             more.extend(children(&self.terms[t as usize]).iter().rev())
@@ -146,10 +173,17 @@ impl Script {
             more.extend_from_slice(&record.fields[record.parts()]);
         });
         propositions.reverse();
-        self.records(&propositions, &terms, into);
+        let mut rename = |number: u16| names.of(random, number);
+        self.records(&propositions, &terms, &mut rename, into);
     }
 
-    fn records(&self, propositions: &[u16], terms: &[u16], into: &mut Vec<u8>) {
+    fn records(
+        &self,
+        propositions: &[u16],
+        terms: &[u16],
+        rename: &mut impl FnMut(u16) -> u16,
+        into: &mut Vec<u8>,
+    ) {
         let proposition_at = places(propositions, self.propositions.len());
         let term_at = places(terms, self.terms.len());
         let expected = proposition_at
@@ -168,6 +202,7 @@ impl Script {
             for part in record.parts() {
                 record.fields[part] = proposition_at[record.fields[part] as usize];
             }
+            record.rename(record.proposition_names(), rename);
             record.write(into);
         }
         for &t in terms {
@@ -178,6 +213,7 @@ impl Script {
             for child in &mut record.fields[3..3 + CHILDREN[record.kind as usize]] {
                 *child = term_at[*child as usize];
             }
+            record.rename(record.term_names(), rename);
             record.write(into);
         }
     }

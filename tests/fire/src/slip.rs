@@ -16,7 +16,8 @@ impl Maker<'_> {
             // 20
             0 => self.ident(UNKNOWN),
             // 14, or 11
-            1 | 2 => self.other_term(),
+            1 => self.other_term(),
+            2 => self.other_datatype(wanted, depth),
             // 10
             3 | 4 => self.unknown_annotation(wanted, depth),
             // 15
@@ -36,6 +37,19 @@ impl Maker<'_> {
             _ => self.wild(depth),
         };
         self.slips = slips;
+        term
+    }
+
+    /// A function over an object that is annotated with another datatype. For what is no ForAll, any other term.
+    fn other_datatype(&mut self, wanted: Id, depth: usize) -> u16 {
+        let Prop::Quant(ALL, _, datatype, _) = self.props.get(wanted) else {
+            return self.other_term();
+        };
+        let term = self.check(wanted, depth);
+        let record = &mut self.script.terms[term as usize];
+        if record.kind == FUNCTION && record.tag != 1 {
+            *record = record.typed(2, datatype ^ 1);
+        }
         term
     }
 
@@ -82,7 +96,11 @@ impl Maker<'_> {
         if self.random.one_in(4) {
             return self.script.term(ascription.typed(2, 1));
         }
-        let other = self.proposition(2);
+        let other = if self.random.one_in(2) {
+            self.proposition(2)
+        } else {
+            self.props.nearly(self.random, wanted)
+        };
         match self.spelled(other) {
             Some(of) => self.script.term(ascription.typed(1, of)),
             None => inside,

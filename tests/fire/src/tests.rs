@@ -1,14 +1,18 @@
 //! Shows that the checks can fail: each is given something wrong.
 
-use crate::bench::{demand_holds, Bench};
+use crate::bench::{demand_holds, Bench, Outcome};
+use crate::counts::Counts as Tried;
+use crate::damage;
 use crate::input::{Entry, Input, SIZES};
 use crate::judge::{answer_bytes, cleared, same_answer, same_results, used, Results, Used};
+use crate::names::Names;
 use crate::random::Random;
 use crate::room::{zeros, Noise, Room};
 use crate::same::Meanings;
 use crate::script::{Record, Script, ALL, ATOM, FUNCTION, IDENT, IMPL, SORRY};
 use crate::seeds::Seeds;
 use plain::{Answer, Counts, Which};
+use std::collections::HashSet;
 
 /// `fun x. fun h. h` for `all x:D. (P(x) -> P(x))`, or `fun x. fun h. sorry` for `all x:D. (P(x) -> Q(x))`.
 fn script(last: u8) -> Vec<u8> {
@@ -40,7 +44,7 @@ fn script(last: u8) -> Vec<u8> {
     let inner = script.term(Record::term(FUNCTION, &[leaf]).named(2, 0));
     script.root = script.term(Record::term(FUNCTION, &[inner]).named(1, 0));
     let mut table = Vec::new();
-    script.write(&mut Random::of(1, 1), &mut table);
+    script.write(&mut Random::of(1, 1), &mut Names::default(), &mut table);
     table
 }
 
@@ -330,12 +334,10 @@ fn input(entry: Entry, table: Vec<u8>, filling: Vec<u8>) -> Input {
     let mut input = Input::new();
     input.lengths = SIZES.map(|size| size + 3);
     input.answer = 20;
-    Input {
-        entry,
-        table,
-        filling,
-        ..input
-    }
+    input.entry = entry;
+    input.table = table;
+    input.filling = filling;
+    input
 }
 
 /// `sorry` and `h` as fillings.
@@ -345,7 +347,7 @@ fn filling(kind: u8) -> Vec<u8> {
     let name = if kind == IDENT { 2 } else { 0 };
     script.root = script.term(Record::term(kind, &[]).named(name, 0));
     let mut table = Vec::new();
-    script.write(&mut Random::of(1, 1), &mut table);
+    script.write(&mut Random::of(1, 1), &mut Names::default(), &mut table);
     table
 }
 
@@ -415,12 +417,11 @@ fn a_changed_table_and_a_wrong_return_are_seen_in_a_whole_run() {
     let mut bench = Bench::new(3);
     for input in inputs() {
         assert!(!stands(&mut bench, &input, |_, returned| *returned ^= 1));
-        for table in 0..2 {
-            let tables = [&input.table, &input.filling];
-            if !tables[table].is_empty() {
-                assert!(!stands(&mut bench, &input, |bench, _| bench.tables()
-                    [table]
-                    .lend()[2] ^= 1));
+        for (table, bytes) in [&input.table, &input.filling].into_iter().enumerate() {
+            let length = bytes.len() as isize;
+            for at in [-64, -1, 0, length / 2, length - 1, length, length + 63] {
+                let flip = |bench: &mut Bench, _: &mut u32| *bench.tables()[table].byte(at) ^= 1;
+                assert!(!stands(&mut bench, &input, flip), "{table} {at}");
             }
         }
     }
@@ -449,38 +450,164 @@ fn input_twice(bench: &mut Bench, random: &mut Random, input: &Input, change: Op
 
 #[test]
 fn demand_3_can_fail() {
-    let old = answer_bytes(&Answer::Accepted(Counts {
-        records: 5,
-        goals: 2,
-        serials: 3,
-        made: 1,
-    }));
-    let filling = Counts {
-        records: 4,
-        goals: 1,
-        serials: 2,
-        made: 7,
+    let accepted = |records, goals, serials, made| Counts {
+        records,
+        goals,
+        serials,
+        made,
     };
+    let old = Answer::Accepted(accepted(5, 2, 3, 1));
+    let filling = accepted(4, 1, 2, 7);
     let checked = |records, goals, serials| {
-        let new = answer_bytes(&Answer::Accepted(Counts {
-            records,
-            goals,
-            serials,
-            made: 9,
-        }));
+        let new = Answer::Accepted(accepted(records, goals, serials, 9));
         demand_holds(&old, &filling, &new).is_ok()
     };
     assert!(checked(8, 2, 5));
     assert!(!checked(9, 2, 5) && !checked(8, 3, 5) && !checked(8, 2, 4));
-    let refused = |number| {
-        let new = Answer::Refused {
-            number,
-            place: 1,
-            which: Which::Old,
+    let holds = |old: &Answer, new: &Answer| demand_holds(old, &filling, new).is_ok();
+    assert!(holds(&old, &refused(30)) && !holds(&old, &refused(14)));
+    assert!(!holds(&refused(30), &refused(30)));
+}
+
+fn refused(number: u8) -> Answer {
+    Answer::Refused {
+        number,
+        place: 1,
+        which: Which::Old,
+    }
+}
+
+#[test]
+fn an_edited_table_is_checked_by_both() {
+    let mut bench = Bench::new(3);
+    let mut random = Random::of(3, 3);
+    let mut input = input(Entry::Fill, script(SORRY), filling(SORRY));
+    input.demand = true;
+    let outcome = bench.run(&mut random, &input).unwrap();
+    assert!(matches!(outcome.edited, Some(Answer::Accepted(_))));
+    // The rooms are those of the last check, of the edited table; the tree that is counted is the filling's.
+    let checked = bench.lent(&input)[0].written()[..48].to_vec();
+    assert_eq!(checked, Rooms::of(&input.table).0 .0[0][..48]);
+    assert_eq!(bench.tree().len(), 16);
+}
+
+/// Counts of an input for each of these refusals, and of one whose tree has these rules; `late` if its edited table was
+/// refused 30.
+fn tried(numbers: &[u8], rules: &[u8], late: bool) -> Tried {
+    let mut tried = Tried::default();
+    let input = input(Entry::Check, vec![], vec![]);
+    for &number in numbers {
+        let outcome = Outcome {
+            answer: refused(number),
+            edited: None,
         };
-        demand_holds(&old, &filling, &answer_bytes(&new)).is_ok()
+        tried.add(&input, &outcome, &[]);
+    }
+    let outcome = Outcome {
+        answer: Answer::Accepted(Counts {
+            records: rules.len() as u16,
+            goals: 0,
+            serials: 0,
+            made: 0,
+        }),
+        edited: late.then(|| refused(30)),
     };
-    assert!(refused(30) && !refused(14));
+    let tree: Vec<u8> = rules.iter().flat_map(|&rule| [rule; 16]).collect();
+    tried.add(&input, &outcome, &tree);
+    tried
+}
+
+#[test]
+fn a_run_that_leaves_something_out_is_seen() {
+    let numbers = [
+        1, 2, 3, 4, 5, 6, 7, 10, 11, 12, 13, 14, 15, 20, 21, 22, 23, 24, 25, 26, 27, 30, 31,
+    ];
+    let rules: Vec<u8> = (0..=16).collect();
+    let all = tried(&numbers, &rules, true);
+    assert!(all.covers(24).is_ok() && all.covers(25).is_err());
+    assert!(tried(&numbers, &rules, false).covers(0).is_err());
+    for left_out in numbers {
+        let fewer: Vec<u8> = numbers.into_iter().filter(|&n| n != left_out).collect();
+        let says = tried(&fewer, &rules, true).covers(0).unwrap_err();
+        assert!(says.ends_with(&format!("wanting: refusal {left_out}")));
+    }
+    for left_out in 0..=16 {
+        let fewer: Vec<u8> = (0..=16).filter(|&rule| rule != left_out).collect();
+        assert!(tried(&numbers, &fewer, true).covers(0).is_err());
+    }
+}
+
+#[test]
+fn a_renaming_has_no_clashes() {
+    let mut names = Names::default();
+    let mut renamed = 0;
+    for index in 0..300 {
+        let mut random = Random::of(4, index);
+        names.begin(&mut random);
+        let new: Vec<u16> = (0..256).map(|n| names.of(&mut random, n)).collect();
+        let again: Vec<u16> = (0..256).map(|n| names.of(&mut random, n)).collect();
+        assert_eq!(new, again);
+        assert_eq!(new.iter().collect::<HashSet<_>>().len(), 256);
+        renamed += usize::from(new.iter().any(|&n| n > 255));
+    }
+    assert!((60..140).contains(&renamed));
+}
+
+/// A table as a checker would see it that reads names, or only those of Ident terms, in its own way.
+fn misread(table: &[u8], idents: bool, reading: &dyn Fn(u16) -> u16) -> Vec<u8> {
+    let mut other = table.to_vec();
+    let terms = 16 + 16 * usize::from(word(table, 6));
+    for at in (16..table.len()).step_by(16) {
+        if idents && (at < terms || table[at] != IDENT) {
+            continue;
+        }
+        for field in damage::names(table, at) {
+            set(&mut other, at + field, reading(word(table, at + field)));
+        }
+    }
+    other
+}
+
+/// The first check whose answer is another one for a checker that reads names so.
+fn shows_at(idents: bool, reading: &dyn Fn(u16) -> u16) -> Option<u64> {
+    let seeds = Seeds::default();
+    let mut rooms = SIZES.map(|size| vec![0; size]);
+    let mut answer = |table: &[u8]| {
+        let [tree, goals, propositions, work, ..] = &mut rooms;
+        let rooms = plain::Rooms {
+            tree,
+            goals,
+            propositions,
+            work,
+        };
+        plain::check(table, rooms, false)
+    };
+    let mut input = Input::new();
+    (0..20_000).find(|&index| {
+        input.make(&mut Random::of(1, index), index, &seeds);
+        let passes = plain::test_table(&input.table, &mut [0; plain::TEST_WORK]);
+        input.entry == Entry::Check
+            && matches!(passes, Answer::Accepted(_))
+            && answer(&input.table) != answer(&misread(&input.table, idents, reading))
+    })
+}
+
+#[test]
+fn a_checker_that_misreads_names_is_seen() {
+    let low = shows_at(false, &|name| name & 0x00FF);
+    let high = shows_at(false, &|name| name & 0xFF00);
+    let signed = shows_at(false, &|name| name & 0x7FFF);
+    // 65,535 is never found: what stands for it is hardly another name of the script.
+    let none = shows_at(true, &|name| if name == 65_535 { 40_961 } else { name });
+    for (misread, at) in [
+        ("low", low),
+        ("high", high),
+        ("signed", signed),
+        ("none", none),
+    ] {
+        println!("{misread}: {at:?}");
+        assert!(at.is_some(), "{misread}");
+    }
 }
 
 #[test]

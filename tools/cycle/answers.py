@@ -1,7 +1,7 @@
 """What answers each need of each member of the cycle: the law of `marking` and its arguments. See README.md."""
 RANK={'check':5,'chk_abort':4,'chk_asc':4,'chk_case':4,'chk_exists':3,'chk_fun':4,'chk_let_in':4,'chk_or':4,'chk_pair':4,'chk_compare':4,'syn_forall':6,'syn_app':1,'syn_asc':1,'syn_case':1,'syn_fun':1,'syn_let_in':1,'syn_pair':1,'syn_proj':1,'synthesize':2}
 A={}
-M='use Rattle.marking.proofs.'
+M='use Rattle.step.proofs.'
 BOUNDS=M+'Bounds.{base-header, base-count, ready-inner, ready-work, ready-tree, ready-goals, ready-goal}'
 RD='(@Start .pre .1 .0)'          # Ready, of a rule of checking
 SRD='(@Start .pre .1 .0)'         # Ready, of a rule of synthesis with a kind
@@ -153,7 +153,7 @@ v2=v1+" _ _ (@After-u .u .given .1)"
 cm=v2+" _ (@After-compare-types .compare-types .ensures) _ (@After-is-alpha .is-alpha .ensures)"
 LAST='@After-check .check .last'
 AFTER=f"(rooms ({LAST} .1 .0) ({LAST} .1 .1 .0) ({LAST} .1 .1 .1 .0) ({LAST} .1 .1 .1 .1 .0))"
-A['chk_asc']={'use':OWN+['use Rattle.marking.specs.Rooms.{rooms}',M+'Ascriptions.{as-given, as-place, as-resolve, chk-as-unresolved, chk-as-count, chk-as-compare, chk-as-ready, chk-as-type, chk-as-apart, chk-as-done}'],
+A['chk_asc']={'use':OWN+['use Rattle.step.specs.Rooms.{rooms}',M+'Ascriptions.{as-given, as-place, as-resolve, chk-as-unresolved, chk-as-count, chk-as-compare, chk-as-ready, chk-as-type, chk-as-apart, chk-as-done}'],
  'term-record-requires':TERM,'annotation-of-requires':'search needs','is-alpha-requires':'search needs',
  'returns':f"absurd (as-given {b} (@After-enum-told .enum-told .given .1))",
  'resolve-type-requires':f"as-resolve {t1}",'returns-2':f"chk-as-unresolved {v1} _ (@After-n .n .given .1)",

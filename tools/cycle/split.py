@@ -34,7 +34,7 @@ for m in members:
         L.append((mm.group(1),re.sub(r'\s+',' ',mm.group(3)).strip().strip(',')))
     needs[called(m)]=L
     for mm in re.finditer(r'(?m)^%s-(\S+) t c κs = \?'%re.escape(p),src): kap.add((called(m),mm.group(1)))
-L=["-- The measure of each member: terms left, times eight, and the member's rank. Assumes nothing.","use Prim.Native.Nat.{ℕ, _<_}","use borrow.Fn.Kinds.{In}","use borrow.Fn.PlainCycle.{Measures, is, falls, and}","use Rattle.marking.proofs.Ranks.{rank}"]
+L=["-- The measure of each member: terms left, times eight, and the member's rank. Assumes nothing.","use Prim.Native.Nat.{ℕ, _<_}","use borrow.Fn.Kinds.{In}","use borrow.Fn.PlainCycle.{Measures, is, falls, and}","use Rattle.step.proofs.Ranks.{rank}"]
 for m in members: L+=[f"use Rattle.checker.proofs.{m[0]}.{m[1]}.Reads as {dash(called(m))}",f"use Rattle.checker.proofs.{m[0]}.{m[1]}.Kinds as {dash(called(m))}-kinds"]
 for m in members:
     d=dash(called(m)); n=lt[called(m)]

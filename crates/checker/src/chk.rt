@@ -5,62 +5,62 @@ ghost use Prim.Native.Nat.{_<_};
 ghost use Rattle.rules.specs.Prop.{and};
 ghost use Rattle.layout.specs.File.{termRecord};
 ghost use Rattle.prop.specs.Room.{TypeIn};
-ghost use Rattle.marking.specs.Heads.{Unsplit};
-ghost use Rattle.marking.specs.Rooms.{countOf, rooms};
-ghost use Rattle.marking.specs.Contract.{Ready, CheckMeets, synthesizes};
+ghost use Rattle.step.specs.Heads.{Unsplit};
+ghost use Rattle.step.specs.Rooms.{countOf, rooms};
+ghost use Rattle.step.specs.Contract.{Ready, CheckMeets, synthesizes};
 use super::syn::synthesize;
-use making::make::Made;
-use making::make::make_constant;
-use making::make::put_in;
-use marking::enter::enter;
-use marking::enter::enter_fresh;
-use marking::enter::new_identifier;
-use marking::head::and_of;
-use marking::head::exists_of;
-use marking::head::or_of;
-use marking::head::part;
-use marking::leaf::chk_sorry;
-use marking::leaf::chk_unit;
-use marking::node::ALPHA_EQ;
-use marking::node::AND_INTRO;
-use marking::node::EXISTS_ELIM;
-use marking::node::EXISTS_INTRO;
-use marking::node::FALSUM_ELIM;
-use marking::node::OR_ELIM;
-use marking::node::node;
-use marking::node::put_node;
-use marking::open::Closed;
-use marking::open::Entered;
-use marking::open::Object;
-use marking::open::Opened;
-use marking::open::close_let;
-use marking::open::grown;
-use marking::open::object_of;
-use marking::open::open_function;
-use marking::open::open_let;
-use marking::shift::shift;
-use marking::state::Checked;
-use marking::state::State;
-use marking::state::Synthesized;
-use marking::state::count_of;
-use marking::state::inner;
-use marking::state::leave;
-use marking::state::left_of;
-use marking::state::term_record;
-use marking::typing::Agreed;
-use marking::typing::Annotation;
-use marking::typing::Resolving;
-use marking::typing::agree;
-use marking::typing::annotation_of;
-use marking::typing::resolve_type;
-use number::Serial;
-use number::Term;
-use number::Type;
+use arena::make::Made;
+use arena::make::make_constant;
+use arena::make::put_in;
+use numbers::Serial;
+use numbers::Sort;
+use numbers::Term;
 use prop::compare::Compared;
 use prop::compare::compare_types;
 use prop::compare::is_alpha;
 use prop::head::Parts;
 use prop::head::Quantified;
+use step::enter::enter;
+use step::enter::enter_fresh;
+use step::enter::new_identifier;
+use step::head::and_of;
+use step::head::exists_of;
+use step::head::or_of;
+use step::head::part;
+use step::leaf::chk_sorry;
+use step::leaf::chk_unit;
+use step::node::ALPHA_EQ;
+use step::node::AND_INTRO;
+use step::node::EXISTS_ELIM;
+use step::node::EXISTS_INTRO;
+use step::node::FALSUM_ELIM;
+use step::node::OR_ELIM;
+use step::node::node;
+use step::node::put_node;
+use step::open::Closed;
+use step::open::Entered;
+use step::open::Object;
+use step::open::Opened;
+use step::open::close_let;
+use step::open::grown;
+use step::open::object_of;
+use step::open::open_function;
+use step::open::open_let;
+use step::shift::shift;
+use step::state::Checked;
+use step::state::State;
+use step::state::Synthesized;
+use step::state::count_of;
+use step::state::inner;
+use step::state::leave;
+use step::state::left_of;
+use step::state::term_record;
+use step::typing::Agreed;
+use step::typing::Annotation;
+use step::typing::Resolving;
+use step::typing::agree;
+use step::typing::annotation_of;
+use step::typing::resolve_type;
 
 // Whether term k has the type that is wanted of it.
 pub fn check(
@@ -70,7 +70,7 @@ pub fn check(
     props: &mut [u8],
     work: &mut [u8],
     k: Term,
-    wanted: Type,
+    wanted: Sort,
     st: State,
 ) -> Checked
     requires { ⌜ Ready (now file) (rooms (now tree) (now goals) (now props) (now work)) (k .0) st ⌝ }
@@ -104,7 +104,7 @@ fn compare(
     props: &mut [u8],
     work: &mut [u8],
     k: Term,
-    wanted: Type,
+    wanted: Sort,
     st: State,
 ) -> Checked
     requires { ⌜ Ready (now file) (rooms (now tree) (now goals) (now props) (now work)) (k .0) st ⌝ }
@@ -138,7 +138,7 @@ fn pair(
     props: &mut [u8],
     work: &mut [u8],
     k: Term,
-    wanted: Type,
+    wanted: Sort,
     st: State,
 ) -> Checked
     requires { ⌜ Ready (now file) (rooms (now tree) (now goals) (now props) (now work)) (k .0) st ⌝ }
@@ -152,13 +152,13 @@ fn pair(
     };
     let r = term_record(file, k);
     let x = r.child1;
-    let p = Type::Proposition(a);
+    let p = Sort::Proposition(a);
     let one = check(file, tree, goals, props, work, x, p, inner(st));
     let Checked::Fits(s1) = one else {
         return one;
     };
     let y = r.child2;
-    let q = Type::Proposition(b);
+    let q = Sort::Proposition(b);
     let two = check(file, tree, goals, props, work, y, q, s1);
     let Checked::Fits(s2) = two else {
         return two;
@@ -176,7 +176,7 @@ fn exists(
     props: &mut [u8],
     work: &mut [u8],
     k: Term,
-    wanted: Type,
+    wanted: Sort,
     st: State,
 ) -> Checked
     requires { ⌜ Ready (now file) (rooms (now tree) (now goals) (now props) (now work)) (k .0) st ⌝ }
@@ -199,13 +199,13 @@ fn exists(
                 return Checked::Refused(30, k);
             };
             let s = inner(grown(st, count, end));
-            let d = Type::Datatype(datatype);
+            let d = Sort::Datatype(datatype);
             let one = check(file, tree, goals, props, work, x, d, s);
             let Checked::Fits(s1) = one else {
                 return one;
             };
             let y = r.child2;
-            let q = Type::Proposition(m);
+            let q = Sort::Proposition(m);
             let two = check(file, tree, goals, props, work, y, q, s1);
             let Checked::Fits(s2) = two else {
                 return two;
@@ -225,7 +225,7 @@ fn fun(
     props: &mut [u8],
     work: &mut [u8],
     k: Term,
-    wanted: Type,
+    wanted: Sort,
     st: State,
 ) -> Checked
     requires { ⌜ Ready (now file) (rooms (now tree) (now goals) (now props) (now work)) (k .0) st ⌝ }
@@ -246,7 +246,7 @@ fn fun(
             Agreed::On(s1) => {
                 let s2 = enter(work, s1, id, a);
                 let y = r.child1;
-                let q = Type::Proposition(b);
+                let q = Sort::Proposition(b);
                 let one = check(file, tree, goals, props, work, y, q, s2);
                 let Checked::Fits(s3) = one else {
                     return one;
@@ -267,7 +267,7 @@ fn let_in(
     props: &mut [u8],
     work: &mut [u8],
     k: Term,
-    wanted: Type,
+    wanted: Sort,
     st: State,
 ) -> Checked
     requires { ⌜ Ready (now file) (rooms (now tree) (now goals) (now props) (now work)) (k .0) st ⌝ }
@@ -309,7 +309,7 @@ fn or(
     props: &mut [u8],
     work: &mut [u8],
     k: Term,
-    wanted: Type,
+    wanted: Sort,
     st: State,
 ) -> Checked
     requires { ⌜ Ready (now file) (rooms (now tree) (now goals) (now props) (now work)) (k .0) st ⌝ }
@@ -324,7 +324,7 @@ fn or(
     let r = term_record(file, k);
     let kind = r.kind;
     let x = r.child1;
-    let p = Type::Proposition(part(kind == 7, a, b));
+    let p = Sort::Proposition(part(kind == 7, a, b));
     let one = check(file, tree, goals, props, work, x, p, inner(st));
     let Checked::Fits(s1) = one else {
         return one;
@@ -342,7 +342,7 @@ fn case(
     props: &mut [u8],
     work: &mut [u8],
     k: Term,
-    wanted: Type,
+    wanted: Sort,
     st: State,
 ) -> Checked
     requires { ⌜ Ready (now file) (rooms (now tree) (now goals) (now props) (now work)) (k .0) st ⌝ }
@@ -359,20 +359,20 @@ fn case(
                 return Checked::Refused(12, h);
             };
             let x1 = r.name1;
-            let s1 = enter_fresh(work, s, x1, Type::Proposition(a));
+            let s1 = enter_fresh(work, s, x1, Sort::Proposition(a));
             let x = r.child2;
             let one = check(file, tree, goals, props, work, x, wanted, s1);
             let Checked::Fits(s2) = one else {
                 return one;
             };
             let x2 = r.name2;
-            let s3 = enter_fresh(work, leave(s2, st.context), x2, Type::Proposition(b));
+            let s3 = enter_fresh(work, leave(s2, st.context), x2, Sort::Proposition(b));
             let y = r.child3;
             let two = check(file, tree, goals, props, work, y, wanted, s3);
             let Checked::Fits(s4) = two else {
                 return two;
             };
-            let Type::Proposition(_) = wanted else {
+            let Sort::Proposition(_) = wanted else {
                 return Checked::Refused(13, k);
             };
             let top = node(OR_ELIM, k, wanted, Serial(s.serials), Serial(s2.serials), 3);
@@ -390,7 +390,7 @@ fn abort(
     props: &mut [u8],
     work: &mut [u8],
     k: Term,
-    wanted: Type,
+    wanted: Sort,
     st: State,
 ) -> Checked
     requires { ⌜ Ready (now file) (rooms (now tree) (now goals) (now props) (now work)) (k .0) st ⌝ }
@@ -405,12 +405,12 @@ fn abort(
     let r = term_record(file, k);
     let s = inner(grown(st, count, end));
     let x = r.child1;
-    let p = Type::Proposition(m);
+    let p = Sort::Proposition(m);
     let one = check(file, tree, goals, props, work, x, p, s);
     let Checked::Fits(s1) = one else {
         return one;
     };
-    let Type::Proposition(_) = wanted else {
+    let Sort::Proposition(_) = wanted else {
         return Checked::Refused(13, k);
     };
     let top = node(FALSUM_ELIM, k, wanted, Serial::NONE, Serial::NONE, 1);
@@ -426,7 +426,7 @@ fn asc(
     props: &mut [u8],
     work: &mut [u8],
     k: Term,
-    wanted: Type,
+    wanted: Sort,
     st: State,
 ) -> Checked
     requires { ⌜ Ready (now file) (rooms (now tree) (now goals) (now props) (now work)) (k .0) st ⌝ }

@@ -3,55 +3,55 @@ ghost use mathlib.Core.Path.{_≡_};
 ghost use Prim.Native.Nat.{_<_};
 ghost use Rattle.layout.specs.File.{termRecord};
 ghost use Rattle.prop.specs.Room.{TypeIn};
-ghost use Rattle.marking.specs.Rooms.{countOf, rooms};
-ghost use Rattle.marking.specs.Contract.{Ready, SynthMeets, ArgumentMeets};
+ghost use Rattle.step.specs.Rooms.{countOf, rooms};
+ghost use Rattle.step.specs.Contract.{Ready, SynthMeets, ArgumentMeets};
 use super::chk::check;
-use making::make::Made;
-use making::make::make_and;
-use making::make::put_in;
-use marking::enter::enter_fresh;
-use marking::head::and_of;
-use marking::head::forall_of;
-use marking::head::impl_of;
-use marking::head::or_of;
-use marking::head::part;
-use marking::leaf::syn_ident;
-use marking::leaf::syn_unit;
-use marking::node::AND_INTRO;
-use marking::node::EXISTS_ELIM;
-use marking::node::FOR_ALL_ELIM;
-use marking::node::IMPL_ELIM;
-use marking::node::OR_ELIM;
-use marking::node::node;
-use marking::node::put_node;
-use marking::open::Abstracted;
-use marking::open::Closed;
-use marking::open::Entered;
-use marking::open::Object;
-use marking::open::abstract_over;
-use marking::open::close_let;
-use marking::open::grown;
-use marking::open::object_of;
-use marking::open::open_let;
-use marking::state::Checked;
-use marking::state::State;
-use marking::state::Synthesized;
-use marking::state::count_of;
-use marking::state::inner;
-use marking::state::leave;
-use marking::state::left_of;
-use marking::state::term_record;
-use marking::typing::Annotation;
-use marking::typing::Resolving;
-use marking::typing::annotation_of;
-use marking::typing::resolve_type;
-use number::Serial;
-use number::Term;
-use number::Type;
+use arena::make::Made;
+use arena::make::make_and;
+use arena::make::put_in;
+use numbers::Serial;
+use numbers::Sort;
+use numbers::Term;
 use prop::compare::compare_types;
 use prop::compare::is_alpha;
 use prop::head::Parts;
 use prop::head::Quantified;
+use step::enter::enter_fresh;
+use step::head::and_of;
+use step::head::forall_of;
+use step::head::impl_of;
+use step::head::or_of;
+use step::head::part;
+use step::leaf::syn_ident;
+use step::leaf::syn_unit;
+use step::node::AND_INTRO;
+use step::node::EXISTS_ELIM;
+use step::node::FOR_ALL_ELIM;
+use step::node::IMPL_ELIM;
+use step::node::OR_ELIM;
+use step::node::node;
+use step::node::put_node;
+use step::open::Abstracted;
+use step::open::Closed;
+use step::open::Entered;
+use step::open::Object;
+use step::open::abstract_over;
+use step::open::close_let;
+use step::open::grown;
+use step::open::object_of;
+use step::open::open_let;
+use step::state::Checked;
+use step::state::State;
+use step::state::Synthesized;
+use step::state::count_of;
+use step::state::inner;
+use step::state::leave;
+use step::state::left_of;
+use step::state::term_record;
+use step::typing::Annotation;
+use step::typing::Resolving;
+use step::typing::annotation_of;
+use step::typing::resolve_type;
 
 // The type of term k.
 pub fn synthesize(
@@ -109,17 +109,17 @@ fn pair(
     let Synthesized::Has(u, s2) = two else {
         return two;
     };
-    let Type::Proposition(b) = u else {
+    let Sort::Proposition(b) = u else {
         return Synthesized::Refused(23, k);
     };
-    let Type::Proposition(a) = t else {
+    let Sort::Proposition(a) = t else {
         return Synthesized::Refused(25, k);
     };
     let count = count_of(file, s2);
     let Made::At(m, end) = make_and(props, count, left_of(s2), a, b) else {
         return Synthesized::Refused(30, k);
     };
-    let found = Type::Proposition(m);
+    let found = Sort::Proposition(m);
     let top = node(AND_INTRO, k, found, Serial::NONE, Serial::NONE, 2);
     put_node(tree, st.records, top);
     Synthesized::Has(found, grown(s2, count, end))
@@ -149,7 +149,7 @@ fn proj(
         return Synthesized::Refused(22, k);
     };
     let kind = r.kind;
-    let found = Type::Proposition(part(kind == 2, a, b));
+    let found = Sort::Proposition(part(kind == 2, a, b));
     let top = node(kind + 1, k, found, Serial::NONE, Serial::NONE, 1);
     put_node(tree, st.records, top);
     Synthesized::Has(found, s1)
@@ -184,13 +184,13 @@ fn fun(
             let Synthesized::Has(u, s1) = one else {
                 return one;
             };
-            let Type::Proposition(b) = u else {
+            let Sort::Proposition(b) = u else {
                 return Synthesized::Refused(24, y);
             };
             match abstract_over(file, props, x, i, a, b, s1) {
                 Abstracted::Full => Synthesized::Refused(30, k),
                 Abstracted::To(rule, m, s2) => {
-                    let found = Type::Proposition(m);
+                    let found = Sort::Proposition(m);
                     let top = node(rule, k, found, i, Serial::NONE, 1);
                     put_node(tree, st.records, top);
                     Synthesized::Has(found, leave(s2, st.context))
@@ -230,10 +230,10 @@ fn app(
         put_node(tree, st.records, top);
         return Synthesized::Has(found, s2);
     };
-    match check(file, tree, goals, props, work, x, Type::Proposition(a), s1) {
+    match check(file, tree, goals, props, work, x, Sort::Proposition(a), s1) {
         Checked::Refused(n, p) => Synthesized::Refused(n, p),
         Checked::Fits(s2) => {
-            let found = Type::Proposition(b);
+            let found = Sort::Proposition(b);
             let top = node(IMPL_ELIM, k, found, Serial::NONE, Serial::NONE, 2);
             put_node(tree, st.records, top);
             Synthesized::Has(found, s2)
@@ -252,7 +252,7 @@ fn forall(
     k: Term,
     f: Term,
     x: Term,
-    t: Type,
+    t: Sort,
     st: State,
 ) -> Synthesized
     requires { ⌜ Ready (now file) (rooms (now tree) (now goals) (now props) (now work)) (x .0) st ⌝ }
@@ -272,7 +272,7 @@ fn forall(
             props,
             work,
             x,
-            Type::Datatype(datatype),
+            Sort::Datatype(datatype),
             st,
         ) {
             Checked::Refused(n, p) => Synthesized::Refused(n, p),
@@ -281,7 +281,7 @@ fn forall(
                 let Made::At(m, end) = put_in(props, count, left_of(s), body, i) else {
                     return Synthesized::Refused(30, k);
                 };
-                Synthesized::Has(Type::Proposition(m), grown(s, count, end))
+                Synthesized::Has(Sort::Proposition(m), grown(s, count, end))
             }
         },
     }
@@ -352,14 +352,14 @@ fn case(
         return Synthesized::Refused(22, h);
     };
     let x1 = r.name1;
-    let s1 = enter_fresh(work, s, x1, Type::Proposition(a));
+    let s1 = enter_fresh(work, s, x1, Sort::Proposition(a));
     let x = r.child2;
     let one = synthesize(file, tree, goals, props, work, x, s1);
     let Synthesized::Has(u, s2) = one else {
         return one;
     };
     let x2 = r.name2;
-    let s3 = enter_fresh(work, leave(s2, st.context), x2, Type::Proposition(b));
+    let s3 = enter_fresh(work, leave(s2, st.context), x2, Sort::Proposition(b));
     let y = r.child3;
     let two = synthesize(file, tree, goals, props, work, y, s3);
     let Synthesized::Has(v, s4) = two else {
@@ -369,7 +369,7 @@ fn case(
     if !is_alpha(c) {
         return Synthesized::Refused(26, k);
     }
-    let Type::Proposition(_) = u else {
+    let Sort::Proposition(_) = u else {
         return Synthesized::Refused(24, k);
     };
     let top = node(OR_ELIM, k, u, Serial(s.serials), Serial(s2.serials), 3);

@@ -9,10 +9,10 @@ use native.Mathlib.Numerals.{add-one}
 use lib.ListN.{length, getD, set, length-set}
 use lib.Seq.{getD-set-other}
 use borrow.Author.Tests.{eq-eqb, ne-eqb}
-use Rattle.number.specs.declared.Type.{«Type» as Sort}
-use Rattle.number.specs.declared.Type.the-variants.{Proposition, Datatype}
-use Rattle.number.specs.Records.{wordAt, putWord}
-use Rattle.number.proofs.Records.{word-far, word-same}
+use Rattle.numbers.specs.declared.Sort.{Sort}
+use Rattle.numbers.specs.declared.Sort.the-variants.{Proposition, Datatype}
+use Rattle.numbers.specs.Records.{wordAt, putWord}
+use Rattle.numbers.proofs.Records.{word-far, word-same}
 use Rattle.rules.specs.Prop.{Ty}
 use Rattle.rules.specs.Context.{Ctx, find}
 use Rattle.context.specs.declared.identifier_context.Entry.{Entry}

@@ -5,10 +5,10 @@ use mathlib.Core.List.{List, [], _∷_}
 use mathlib.Core.Option.{Option, none, some}
 use Prim.Native.Nat.{ℕ, zero, suc, _+_, _*_, _<_, _≤_}
 use lib.ListN.{length, getD}
-use Rattle.number.specs.declared.Type.{«Type» as Sort}
-use Rattle.number.specs.declared.Type.the-variants.{Proposition, Datatype}
-use Rattle.number.specs.Limits.{most-terms}
-use Rattle.number.specs.Records.{wordAt}
+use Rattle.numbers.specs.declared.Sort.{Sort}
+use Rattle.numbers.specs.declared.Sort.the-variants.{Proposition, Datatype}
+use Rattle.numbers.specs.Limits.{most-terms}
+use Rattle.numbers.specs.Records.{wordAt}
 use Rattle.rules.specs.Prop.{Ty}
 use Rattle.rules.specs.Context.{Entry as Hypothesis, Ctx, entry, find}
 use Rattle.context.specs.declared.identifier_context.Entry.{Entry}

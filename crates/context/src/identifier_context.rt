@@ -4,19 +4,19 @@ ghost use mathlib.Core.Path.{_≡_};
 ghost use Prim.Native.Nat.{_+_, _*_, _≤_};
 ghost use lib.ListN.{length};
 ghost use Rattle.context.specs.Context.{sortOf, tagOf, numberOf, entryAt, Inserted, Latest};
-use number::Name;
-use number::Proposition;
-use number::Serial;
-use number::Term;
-use number::Type;
-use number::record::put_word;
-use number::record::word;
+use numbers::Name;
+use numbers::Proposition;
+use numbers::Serial;
+use numbers::Sort;
+use numbers::Term;
+use numbers::record::put_word;
+use numbers::record::word;
 
 // What a name stands for. Document 01: the type, a proposition number or a datatype, is held inside each context entry.
 pub struct Entry {
     pub name: Name,
     pub serial: Serial,
-    pub typ: Type,
+    pub typ: Sort,
 }
 
 pub enum Found {
@@ -30,30 +30,30 @@ pub const LIMIT: usize = 2 * (Term::LIMIT as usize);
 pub const ROOM: usize = 8 * LIMIT;
 
 // A type is kept as two numbers: a tag, 0 for a proposition and 1 for a datatype, and the number itself.
-fn sort_of(tag: u16, number: u16) -> Type
+fn sort_of(tag: u16, number: u16) -> Sort
     ensures { λ r. ⌜ r ≡ sortOf tag number ⌝ }
 {
     match tag {
-        0 => Type::Proposition(Proposition(number)),
-        _ => Type::Datatype(Name(number)),
+        0 => Sort::Proposition(Proposition(number)),
+        _ => Sort::Datatype(Name(number)),
     }
 }
 
-fn tag_of(typ: Type) -> u16
+fn tag_of(typ: Sort) -> u16
     ensures { λ r. ⌜ r ≡ tagOf typ ⌝ }
 {
     match typ {
-        Type::Proposition(_) => 0,
-        Type::Datatype(_) => 1,
+        Sort::Proposition(_) => 0,
+        Sort::Datatype(_) => 1,
     }
 }
 
-fn number_of(typ: Type) -> u16
+fn number_of(typ: Sort) -> u16
     ensures { λ r. ⌜ r ≡ numberOf typ ⌝ }
 {
     match typ {
-        Type::Proposition(p) => p.0,
-        Type::Datatype(d) => d.0,
+        Sort::Proposition(p) => p.0,
+        Sort::Datatype(d) => d.0,
     }
 }
 

@@ -9,8 +9,8 @@ use lib.ListN.{length, getD}
 use lib.Seq.{ext-getD}
 use lib.Dec.{eqb, ltb}
 use borrow.Author.Tests.{ltb-true, ltb-false, eqb-true, eqb-false}
-use Rattle.number.specs.declared.record.Record.{Record}
-use Rattle.number.specs.Records.{wordAt, recordAt}
+use Rattle.numbers.specs.declared.record.Record.{Record}
+use Rattle.numbers.specs.Records.{wordAt, recordAt}
 use Rattle.layout.specs.File.{props, terms, propRecord}
 use Rattle.rules.specs.Term.{nodes}
 use Rattle.table.specs.Reading.{binders, propAt, termAt}

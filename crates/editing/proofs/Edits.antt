@@ -9,8 +9,8 @@ use native.Mathlib.Nat.{add-mul}
 use native.Mathlib.Omega.{arith}
 use lib.Dec.{eqb}
 use borrow.Author.Tests.{not-true, not-false}
-use Rattle.number.specs.declared.record.Record.{Record}
-use Rattle.number.specs.Limits.{most-propositions, most-terms}
+use Rattle.numbers.specs.declared.record.Record.{Record}
+use Rattle.numbers.specs.Limits.{most-propositions, most-terms}
 use Rattle.layout.specs.File.{props, terms, expected, propRecord, termRecord}
 use Rattle.layout.specs.Form.{prop-form, term-form}
 use Rattle.rules.specs.Prop.{prop, closed}

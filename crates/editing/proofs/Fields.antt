@@ -8,8 +8,8 @@ use native.Mathlib.Omega.{arith}
 use lib.Dec.{eqb, ltb}
 use lib.ListN.{getD}
 use borrow.Author.Tests.{ltb-true, eqb-true}
-use Rattle.number.specs.declared.record.Record.{Record}
-use Rattle.number.specs.Limits.{most-propositions, most-terms}
+use Rattle.numbers.specs.declared.record.Record.{Record}
+use Rattle.numbers.specs.Limits.{most-propositions, most-terms}
 use Rattle.layout.specs.declared.form.PropShape.{PropShape}
 use Rattle.layout.specs.declared.form.TermShape.{TermShape}
 use Rattle.layout.specs.File.{asTerm, prop-kind, kind-of}

@@ -8,8 +8,8 @@ use native.Mathlib.Omega.{arith}
 use lib.ListN.{length, getD}
 use lib.Dec.{eqb, leb}
 use borrow.Author.Tests.{leb-true, le-leb, eqb-true, eq-eqb}
-use Rattle.number.specs.declared.record.Record.{Record}
-use Rattle.number.specs.Records.{wordAt, recordAt}
+use Rattle.numbers.specs.declared.record.Record.{Record}
+use Rattle.numbers.specs.Records.{wordAt, recordAt}
 use Rattle.table.specs.Tests.{mark, blank, header}
 use Rattle.table.proofs.Headers.{and-left, and-right}
 use Rattle.editing.specs.Edited.{Joined}

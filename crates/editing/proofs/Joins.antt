@@ -9,9 +9,9 @@ use native.Mathlib.Omega.{arith}
 use lib.ListN.{getD}
 use lib.Dec.{eqb, ltb}
 use borrow.Author.Tests.{ltb-true, ltb-false, lt-ltb, eqb-true, eqb-false}
-use Rattle.number.specs.declared.record.Record.{Record}
-use Rattle.number.specs.Limits.{most-propositions, most-terms}
-use Rattle.number.specs.Records.{recordAt}
+use Rattle.numbers.specs.declared.record.Record.{Record}
+use Rattle.numbers.specs.Limits.{most-propositions, most-terms}
+use Rattle.numbers.specs.Records.{recordAt}
 use Rattle.layout.specs.File.{props, terms, expected, propRecord, termRecord, asTerm}
 use Rattle.layout.specs.Form.{prop-form, term-form}
 use Rattle.table.specs.Links.{prop-links, term-links, annotation, all-links, hits}

@@ -10,7 +10,7 @@ use native.Mathlib.Omega.{arith}
 use lib.Dec.{eqb, ltb, leb}
 use lib.ListN.{getD}
 use borrow.Author.Tests.{lt-ltb, eqb-true, eqb-false, eq-eqb, ne-eqb}
-use Rattle.number.specs.declared.record.Record.{Record}
+use Rattle.numbers.specs.declared.record.Record.{Record}
 use Rattle.layout.specs.declared.form.TermShape.{TermShape}
 use Rattle.layout.specs.File.{asTerm, PropKind, constant, linked, quantified, atomic, strange, prop-kind, kind-of}
 use Rattle.layout.specs.Form.{fits, prop-shape, in-prop-shape, prop-form, term-shape, in-term-shape, term-form}

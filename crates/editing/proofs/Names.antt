@@ -8,7 +8,7 @@ use Prim.Native.Nat.{ℕ, zero, suc, _+_, _-_, _<_, _≤_}
 use native.Mathlib.Omega.{arith}
 use lib.Dec.{eqb}
 use borrow.Author.Tests.{eq-eqb, ne-eqb, lt-ltb}
-use Rattle.number.specs.declared.record.Record.{Record}
+use Rattle.numbers.specs.declared.record.Record.{Record}
 use Rattle.layout.specs.File.{props, terms, expected, propRecord, termRecord, asTerm, Kind, Sorry, kind-of}
 use Rattle.layout.specs.Form.{term-shape}
 use Rattle.table.specs.declared.Purpose.the-variants.{Check, Filling}

@@ -8,7 +8,7 @@ use native.Mathlib.Omega.{arith}
 use lib.ListN.{take}
 use lib.Dec.{ltb}
 use borrow.Author.Tests.{ltb-true, ltb-false, le-ltb}
-use Rattle.number.specs.declared.record.Record.{Record}
+use Rattle.numbers.specs.declared.record.Record.{Record}
 use Rattle.layout.specs.File.{props, propRecord, PropKind, constant, linked, quantified, atomic, strange, prop-kind}
 use Rattle.rules.specs.Prop.{Prop, atom, table}
 use Rattle.table.specs.declared.Guilty.{Guilty}

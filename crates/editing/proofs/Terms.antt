@@ -9,7 +9,7 @@ use Prim.Native.Nat.{ℕ, zero, suc, _<_}
 use native.Mathlib.Omega.{arith}
 use lib.Dec.{eqb}
 use borrow.Author.Tests.{eqb-true, eq-eqb, ne-eqb}
-use Rattle.number.specs.declared.record.Record.{Record}
+use Rattle.numbers.specs.declared.record.Record.{Record}
 use Rattle.layout.specs.declared.record.TermRecord.{TermRecord}
 use Rattle.layout.specs.File.{terms, termRecord, asTerm, Kind, Ident, Pair, ProjectFst, ProjectSnd, Function, Application, LetIn, OrLeft, OrRight, Case, Abort, TheUnit, TypeAscription, Sorry, Strange, kind-of}
 use Rattle.rules.specs.Prop.{Prop, Ty, prop}

@@ -4,9 +4,9 @@ use mathlib.Core.Path.{_≡_}
 use mathlib.Core.List.{List}
 use Prim.Native.Nat.{ℕ, _+_, _<_, _≤_}
 use lib.ListN.{length}
-use Rattle.number.specs.declared.record.Record.{Record}
-use Rattle.number.specs.Limits.{most-propositions, most-terms}
-use Rattle.number.specs.Records.{recordAt}
+use Rattle.numbers.specs.declared.record.Record.{Record}
+use Rattle.numbers.specs.Limits.{most-propositions, most-terms}
+use Rattle.numbers.specs.Records.{recordAt}
 use Rattle.layout.specs.File.{terms, asTerm}
 use Rattle.table.specs.Links.{prop-links, term-links, annotation, hits}
 use Rattle.editing.specs.declared.moving.Change.{Change}

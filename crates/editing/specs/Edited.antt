@@ -7,9 +7,9 @@ use mathlib.Core.List.{List, [], _∷_}
 use Prim.Native.Nat.{ℕ, _+_, _-_, _*_, _<_}
 use lib.ListN.{length, getD}
 use lib.Dec.{eqb, ltb}
-use Rattle.number.specs.declared.record.Record.{Record}
-use Rattle.number.specs.Records.{recordAt}
-use Rattle.number.specs.Limits.{most-propositions, most-terms}
+use Rattle.numbers.specs.declared.record.Record.{Record}
+use Rattle.numbers.specs.Records.{recordAt}
+use Rattle.numbers.specs.Limits.{most-propositions, most-terms}
 use Rattle.layout.specs.File.{props, terms, propRecord, termRecord, prop-kind, Sorry, kind-of}
 use Rattle.layout.specs.Form.{prop-shape, term-shape}
 use Rattle.table.specs.declared.Purpose.the-variants.{Check, Filling}

@@ -2,12 +2,12 @@
 ghost use mathlib.Core.Path.{_≡_};
 ghost use mathlib.Core.Bool.{true, cond};
 ghost use Prim.Native.Nat.{_+_, _≤_};
-ghost use Rattle.number.specs.Limits.{«most-propositions»};
+ghost use Rattle.numbers.specs.Limits.{«most-propositions»};
 ghost use Rattle.editing.specs.Edited.{«moved-prop», «moved-term»};
 ghost use Rattle.editing.specs.Copied.{changed, PropMoves, TermMoves, Moves};
 use layout::form::prop_shape;
 use layout::form::term_shape;
-use number::record::Record;
+use numbers::record::Record;
 
 // What becomes of a record that is copied. One of the old table stays as it is; a proposition of the filling comes behind so many
 // propositions, and a term behind so many propositions and terms.

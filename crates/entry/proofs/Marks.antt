@@ -8,9 +8,9 @@ use borrow.Author.Tests.{leb-true, le-leb}
 use lib.ListN.{length, getD, take, drop, length-append, length-drop, List·getD-append}
 use lib.Dec.{leb}
 use lib.Seq.{length-take-le}
-use Rattle.number.specs.declared.Term.{Term}
-use Rattle.number.specs.Records.{Same}
-use Rattle.number.specs.Rooms.{cleared}
+use Rattle.numbers.specs.declared.Term.{Term}
+use Rattle.numbers.specs.Records.{Same}
+use Rattle.numbers.specs.Rooms.{cleared}
 use Rattle.layout.specs.File.{props}
 use Rattle.rules.specs.State.{St}
 use Rattle.rules.specs.Tree.{records, holes}
@@ -23,13 +23,13 @@ use Rattle.table.specs.Tests.{tests, test-room, unless, Tested}
 use Rattle.table.specs.Passing.{Good}
 use Rattle.prop.specs.Room.{Arena}
 use Rattle.prop.proofs.Rooms.{node-kept}
-use Rattle.making.specs.Copy.{most-records}
-use Rattle.marking.specs.declared.state.State.{State}
-use Rattle.marking.specs.declared.state.Checked.{Checked}
-use Rattle.marking.specs.declared.state.Checked.the-variants as checked
-use Rattle.marking.specs.Rooms.{Rooms, rooms, stOf, countOf}
-use Rattle.marking.specs.Trees.{goalAt, SameGoals, TreesAre}
-use Rattle.marking.proofs.Frames.{trees-kept}
+use Rattle.arena.specs.Copy.{most-records}
+use Rattle.step.specs.declared.state.State.{State}
+use Rattle.step.specs.declared.state.Checked.{Checked}
+use Rattle.step.specs.declared.state.Checked.the-variants as checked
+use Rattle.step.specs.Rooms.{Rooms, rooms, stOf, countOf}
+use Rattle.step.specs.Trees.{goalAt, SameGoals, TreesAre}
+use Rattle.step.proofs.Frames.{trees-kept}
 use Rattle.entry.specs.declared.Mark.{Mark}
 use Rattle.entry.specs.declared.Mark.the-variants as mark
 use Rattle.entry.specs.Mark.{tree-bytes, goals-bytes, props-bytes, work-bytes, long-enough, root-run, unless-refused, table-run, outcome, Emptied, Holds, Kept, countsOf, MarkedAs, Marks}

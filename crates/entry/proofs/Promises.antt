@@ -10,10 +10,10 @@ use lib.ListN.{length, getD, length-map}
 use lib.Seq.{getD-at}
 use native.Mathlib.Nat.{eq-or-lt-of-le}
 use lib.Dec.{ltb}
-use Rattle.number.specs.declared.Type.{«Type» as Sort}
-use Rattle.number.specs.declared.Type.the-variants as sort
-use Rattle.number.specs.declared.record.Record.{Record}
-use Rattle.number.specs.Records.{recordAt}
+use Rattle.numbers.specs.declared.Sort.{Sort}
+use Rattle.numbers.specs.declared.Sort.the-variants as sort
+use Rattle.numbers.specs.declared.record.Record.{Record}
+use Rattle.numbers.specs.Records.{recordAt}
 use Rattle.layout.specs.File.{props, PropKind, constant, linked, quantified, atomic, strange, prop-kind}
 use Rattle.rules.specs.Prop.{Origin, table, made, Prop, const, link, quant, atom, Ty, prop, datatype}
 use Rattle.rules.specs.State.{St}
@@ -32,10 +32,10 @@ use Rattle.table.specs.Reading.{termAt}
 use Rattle.prop.specs.Room.{origin, roomAt, room-within}
 use Rattle.prop.specs.Room as room
 use Rattle.context.specs.Context.{tagOf, numberOf}
-use Rattle.marking.specs.declared.node.Goal.{Goal}
-use Rattle.marking.specs.Rooms.{Rooms, reads}
-use Rattle.marking.specs.Trees.{nodeRec, goalAt, goalRec, NodeIs, GapIs, TreesAre}
-use Rattle.marking.proofs.Goals.{goal-place, goal-term}
+use Rattle.step.specs.declared.node.Goal.{Goal}
+use Rattle.step.specs.Rooms.{Rooms, reads}
+use Rattle.step.specs.Trees.{nodeRec, goalAt, goalRec, NodeIs, GapIs, TreesAre}
+use Rattle.step.proofs.Goals.{goal-place, goal-term}
 use Rattle.entry.specs.declared.Counts.{Counts}
 use Rattle.entry.specs.declared.Mark.{Mark}
 use Rattle.entry.specs.declared.Mark.the-variants as mark

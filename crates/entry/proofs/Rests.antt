@@ -5,10 +5,10 @@ use Prim.Native.Nat.{ℕ, min, _+_, _-_, _*_, _<_, _≤_}
 use native.Mathlib.Omega.{arith}
 use lib.ListN.{length, getD, take, drop, replicate, length-append, length-drop, length-replicate, take-append-drop, List·getD-append, replicate-append-replicate}
 use lib.Seq.{length-take-le, getD-take, drop-append-le, drop-drop, drop-at}
-use Rattle.number.specs.Records.{wordAt, recordAt, Same}
-use Rattle.number.specs.Rooms.{cleared}
-use Rattle.number.proofs.Rooms.{cleared-within, cleared-all}
-use Rattle.marking.specs.Trees.{goalAt, SameGoals}
+use Rattle.numbers.specs.Records.{wordAt, recordAt, Same}
+use Rattle.numbers.specs.Rooms.{cleared}
+use Rattle.numbers.proofs.Rooms.{cleared-within, cleared-all}
+use Rattle.step.specs.Trees.{goalAt, SameGoals}
 use Rattle.entry.specs.Rest.{Trimmed}
 
 -- CLEARED. A room of just n bytes

@@ -4,9 +4,9 @@ use mathlib.Core.List.{List, []}
 use Prim.Native.Nat.{ℕ, _+_, _*_, _<_, _≤_}
 use native.Mathlib.Omega.{arith}
 use lib.ListN.{length}
-use Rattle.number.specs.declared.Type.{«Type» as Sort}
-use Rattle.number.specs.declared.Type.the-variants as sort
-use Rattle.number.specs.Records.{recordAt, Same}
+use Rattle.numbers.specs.declared.Sort.{Sort}
+use Rattle.numbers.specs.declared.Sort.the-variants as sort
+use Rattle.numbers.specs.Records.{recordAt, Same}
 use Rattle.layout.specs.File.{props, terms, expected}
 use Rattle.rules.specs.Prop.{Ty, prop}
 use Rattle.rules.specs.Context.{Ctx}
@@ -25,14 +25,14 @@ use Rattle.table.proofs.Links.{expected-in}
 use Rattle.table.proofs.Passing.{good-passed}
 use Rattle.prop.specs.Room.{Arena}
 use Rattle.context.proofs.Laws.{ctx-none}
-use Rattle.making.specs.Copy.{most-records}
-use Rattle.making.specs.Load as load
-use Rattle.marking.specs.declared.state.State.{State}
-use Rattle.marking.specs.declared.state.Checked.{Checked}
-use Rattle.marking.specs.declared.state.Checked.the-variants as checked
-use Rattle.marking.specs.Rooms.{Rooms, rooms, reads, ctxOf, stOf, countOf, Loaded}
-use Rattle.marking.specs.Contract.{Ready, Accepts, CheckMeets, runOf}
-use Rattle.marking.proofs.Starts.{nothing, ready-root}
+use Rattle.arena.specs.Copy.{most-records}
+use Rattle.arena.specs.Load as load
+use Rattle.step.specs.declared.state.State.{State}
+use Rattle.step.specs.declared.state.Checked.{Checked}
+use Rattle.step.specs.declared.state.Checked.the-variants as checked
+use Rattle.step.specs.Rooms.{Rooms, rooms, reads, ctxOf, stOf, countOf, Loaded}
+use Rattle.step.specs.Contract.{Ready, Accepts, CheckMeets, runOf}
+use Rattle.step.proofs.Starts.{nothing, ready-root}
 use Rattle.entry.specs.Mark.{root-run, Holds}
 use Rattle.entry.specs.Ran.{Exact, Ran, RanAs}
 

@@ -5,8 +5,8 @@ use mathlib.Core.List.{List, []}
 use Prim.Native.Nat.{ℕ, _+_, _*_, _<_, _≤_}
 use lib.ListN.{length}
 use lib.Dec.{leb}
-use Rattle.number.specs.Records.{recordAt}
-use Rattle.number.specs.Rooms.{cleared}
+use Rattle.numbers.specs.Records.{recordAt}
+use Rattle.numbers.specs.Rooms.{cleared}
 use Rattle.layout.specs.File.{props, expected}
 use Rattle.rules.specs.Prop.{prop}
 use Rattle.rules.specs.State.{St, start}
@@ -19,10 +19,10 @@ use Rattle.table.specs.declared.Verdict.the-variants as verdict
 use Rattle.table.specs.Tests.{tests}
 use Rattle.table.specs.Reading.{propAt, termAt}
 use Rattle.prop.specs.Room.{Arena}
-use Rattle.making.specs.Copy.{most-records}
-use Rattle.making.specs.Load.{loadedRecord}
-use Rattle.marking.specs.Rooms.{Rooms, most-nodes, most-goals}
-use Rattle.marking.specs.Trees.{TreesAre}
+use Rattle.arena.specs.Copy.{most-records}
+use Rattle.arena.specs.Load.{loadedRecord}
+use Rattle.step.specs.Rooms.{Rooms, most-nodes, most-goals}
+use Rattle.step.specs.Trees.{TreesAre}
 use Rattle.entry.specs.declared.Counts.{Counts}
 use Rattle.entry.specs.declared.Mark.{Mark}
 use Rattle.entry.specs.declared.Mark.the-variants as mark

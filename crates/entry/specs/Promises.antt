@@ -5,8 +5,8 @@ use mathlib.Core.List.{List}
 use mathlib.Core.Logic.{_⊎_}
 use Prim.Native.Nat.{ℕ, _<_, _≤_}
 use lib.ListN.{length, getD}
-use Rattle.number.specs.declared.record.Record.{Record}
-use Rattle.number.specs.Records.{recordAt}
+use Rattle.numbers.specs.declared.record.Record.{Record}
+use Rattle.numbers.specs.Records.{recordAt}
 use Rattle.layout.specs.File.{props}
 use Rattle.rules.specs.State.{St}
 use Rattle.rules.specs.Term.{sorries}
@@ -14,9 +14,9 @@ use Rattle.rules.specs.Step.{ok, Answer}
 use Rattle.table.specs.declared.Purpose.the-variants.{Check}
 use Rattle.table.specs.Passing.{Good}
 use Rattle.table.specs.Reading.{termAt}
-use Rattle.marking.specs.declared.node.Goal.{Goal}
-use Rattle.marking.specs.Rooms.{Rooms}
-use Rattle.marking.specs.Trees.{goalAt}
+use Rattle.step.specs.declared.node.Goal.{Goal}
+use Rattle.step.specs.Rooms.{Rooms}
+use Rattle.step.specs.Trees.{goalAt}
 use Rattle.entry.specs.declared.Counts.{Counts}
 use Rattle.entry.specs.declared.Mark.{Mark}
 use Rattle.entry.specs.declared.Mark.the-variants as mark

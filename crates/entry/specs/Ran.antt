@@ -5,10 +5,10 @@ use Prim.Native.Nat.{ℕ}
 use lib.ListN.{length}
 use Rattle.rules.specs.Tree.{records, holes}
 use Rattle.rules.specs.Step.{Out, refused, ok, Answer}
-use Rattle.marking.specs.declared.state.State.{State}
-use Rattle.marking.specs.declared.state.Checked.{Checked}
-use Rattle.marking.specs.declared.state.Checked.the-variants as checked
-use Rattle.marking.specs.Rooms.{Rooms, stOf}
+use Rattle.step.specs.declared.state.State.{State}
+use Rattle.step.specs.declared.state.Checked.{Checked}
+use Rattle.step.specs.declared.state.Checked.the-variants as checked
+use Rattle.step.specs.Rooms.{Rooms, stOf}
 use Rattle.entry.specs.Mark.{tree-bytes, goals-bytes, props-bytes, work-bytes, Holds}
 
 -- rooms of just the listed sizes

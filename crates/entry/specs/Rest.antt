@@ -3,8 +3,8 @@ use mathlib.Core.Path.{_≡_}
 use mathlib.Core.List.{List}
 use Prim.Native.Nat.{ℕ, _*_, _<_}
 use lib.ListN.{length, getD}
-use Rattle.number.specs.Rooms.{cleared}
-use Rattle.marking.specs.Rooms.{Rooms}
+use Rattle.numbers.specs.Rooms.{cleared}
+use Rattle.step.specs.Rooms.{Rooms}
 use Rattle.entry.specs.Mark.{tree-bytes, goals-bytes, props-bytes, work-bytes}
 
 -- the first `used` bytes are kept; if they too were zeros, all the first `size` bytes would be

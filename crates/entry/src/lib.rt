@@ -3,20 +3,16 @@
 ghost use mathlib.Core.Path.{_≡_};
 ghost use Prim.Native.Nat.{_+_, _≤_};
 ghost use lib.ListN.{length};
-ghost use Rattle.layout.specs.File.{props};
 ghost use Rattle.table.specs.declared.Purpose.«the-variants».{Check};
 ghost use Rattle.table.specs.Passing.{Good};
-ghost use Rattle.marking.specs.Rooms.{rooms};
+ghost use Rattle.step.specs.Rooms.{rooms};
 ghost use Rattle.entry.specs.Mark.{«root-run», «table-run», MarkedAs, Marks};
 ghost use Rattle.entry.specs.Ran.{Exact, RanAs};
+use arena::load::load;
 use checker::chk;
 use layout::header::expected_field;
-use making::load::load;
-use marking::state::Checked;
-use marking::state::State;
-use marking::state::count_of;
-use number::Term;
-use number::Type;
+use numbers::Sort;
+use numbers::Term;
 use rooms::GOALS;
 use rooms::PROPOSITIONS;
 use rooms::TREE;
@@ -24,6 +20,9 @@ use rooms::WORK;
 use rooms::clear_rest;
 use rooms::clear_rooms;
 use rooms::long_enough;
+use step::state::Checked;
+use step::state::State;
+use step::state::count_of;
 use table::Purpose;
 use table::Verdict;
 use table::test_table;
@@ -45,26 +44,20 @@ pub enum Mark {
 }
 
 // The run of a table that passes its tests: its root, held to what it expects, with nothing made yet and an empty context.
-fn run(
-    file: &[u8],
-    tree: &mut [u8],
-    goals: &mut [u8],
-    propositions: &mut [u8],
-    work: &mut [u8],
-) -> Checked
+fn run(file: &[u8], tree: &mut [u8], goals: &mut [u8], props: &mut [u8], work: &mut [u8]) -> Checked
     requires { ⌜ Good Check (now file) ⌝ }
-    requires { ⌜ Exact (rooms (now tree) (now goals) (now propositions) (now work)) ⌝ }
-    ensures { λ r. ⌜ RanAs (now (file .entry)) («root-run» (now (file .entry))) (rooms (now (tree .exit)) (now (goals .exit)) (now (propositions .exit)) (now (work .exit))) r ⌝ }
+    requires { ⌜ Exact (rooms (now tree) (now goals) (now props) (now work)) ⌝ }
+    ensures { λ r. ⌜ RanAs (now (file .entry)) («root-run» (now (file .entry))) (rooms (now (tree .exit)) (now (goals .exit)) (now (props .exit)) (now (work .exit))) r ⌝ }
 {
-    load(file, work, propositions);
+    load(file, work, props);
     chk::check(
         file,
         tree,
         goals,
-        propositions,
+        props,
         work,
         Term(0),
-        Type::Proposition(expected_field(file)),
+        Sort::Proposition(expected_field(file)),
         State {
             records: 0,
             goals: 0,
@@ -80,23 +73,23 @@ fn finish(
     file: &[u8],
     tree: &mut [u8],
     goals: &mut [u8],
-    propositions: &mut [u8],
+    props: &mut [u8],
     work: &mut [u8],
     answer: Checked,
 ) -> Mark
     requires { ⌜ 16 ≤ length (now file) ⌝ }
-    requires { ⌜ Exact (rooms (now tree) (now goals) (now propositions) (now work)) ⌝ }
-    requires { ⌜ RanAs (now file) («root-run» (now file)) (rooms (now tree) (now goals) (now propositions) (now work)) answer ⌝ }
-    ensures { λ m. ⌜ MarkedAs (now (file .entry)) (rooms (now (tree .entry)) (now (goals .entry)) (now (propositions .entry)) (now (work .entry))) (rooms (now (tree .exit)) (now (goals .exit)) (now (propositions .exit)) (now (work .exit))) («root-run» (now (file .entry))) m ⌝ }
+    requires { ⌜ Exact (rooms (now tree) (now goals) (now props) (now work)) ⌝ }
+    requires { ⌜ RanAs (now file) («root-run» (now file)) (rooms (now tree) (now goals) (now props) (now work)) answer ⌝ }
+    ensures { λ m. ⌜ MarkedAs (now (file .entry)) (rooms (now (tree .entry)) (now (goals .entry)) (now (props .entry)) (now (work .entry))) (rooms (now (tree .exit)) (now (goals .exit)) (now (props .exit)) (now (work .exit))) («root-run» (now (file .entry))) m ⌝ }
 {
     match answer {
         Checked::Refused(n, place) => {
-            clear_rooms(tree, goals, propositions, work);
+            clear_rooms(tree, goals, props, work);
             Mark::Refused(n, place.0)
         }
         Checked::Fits(st) => {
             let count = count_of(file, st);
-            clear_rest(tree, goals, propositions, work, st.records, st.goals, count);
+            clear_rest(tree, goals, props, work, st.records, st.goals, count);
             Mark::Accepted(Counts {
                 records: st.records,
                 goals: st.goals,
@@ -112,18 +105,18 @@ pub fn check_table(
     file: &[u8],
     tree: &mut [u8],
     goals: &mut [u8],
-    propositions: &mut [u8],
+    props: &mut [u8],
     work: &mut [u8],
 ) -> Mark
-    requires { ⌜ Exact (rooms (now tree) (now goals) (now propositions) (now work)) ⌝ }
-    ensures { λ m. ⌜ MarkedAs (now (file .entry)) (rooms (now (tree .entry)) (now (goals .entry)) (now (propositions .entry)) (now (work .entry))) (rooms (now (tree .exit)) (now (goals .exit)) (now (propositions .exit)) (now (work .exit))) («table-run» (now (file .entry))) m ⌝ }
+    requires { ⌜ Exact (rooms (now tree) (now goals) (now props) (now work)) ⌝ }
+    ensures { λ m. ⌜ MarkedAs (now (file .entry)) (rooms (now (tree .entry)) (now (goals .entry)) (now (props .entry)) (now (work .entry))) (rooms (now (tree .exit)) (now (goals .exit)) (now (props .exit)) (now (work .exit))) («table-run» (now (file .entry))) m ⌝ }
 {
     if let Verdict::Refused(n, place) = test_table(file, work, Purpose::Check) {
-        clear_rooms(tree, goals, propositions, work);
+        clear_rooms(tree, goals, props, work);
         return Mark::Refused(n, place);
     }
-    let answer = run(file, tree, goals, propositions, work);
-    finish(file, tree, goals, propositions, work, answer)
+    let answer = run(file, tree, goals, props, work);
+    finish(file, tree, goals, props, work, answer)
 }
 
 // The mark of any bytes in any rooms.
@@ -131,21 +124,21 @@ pub fn check(
     file: &[u8],
     tree: &mut [u8],
     goals: &mut [u8],
-    propositions: &mut [u8],
+    props: &mut [u8],
     work: &mut [u8],
 ) -> Mark
-    ensures { λ m. ⌜ Marks (now (file .entry)) (rooms (now (tree .entry)) (now (goals .entry)) (now (propositions .entry)) (now (work .entry))) (rooms (now (tree .exit)) (now (goals .exit)) (now (propositions .exit)) (now (work .exit))) m ⌝ }
+    ensures { λ m. ⌜ Marks (now (file .entry)) (rooms (now (tree .entry)) (now (goals .entry)) (now (props .entry)) (now (work .entry))) (rooms (now (tree .exit)) (now (goals .exit)) (now (props .exit)) (now (work .exit))) m ⌝ }
 {
-    if long_enough(tree, goals, propositions, work) {
+    if long_enough(tree, goals, props, work) {
         check_table(
             file,
             &mut tree[..TREE],
             &mut goals[..GOALS],
-            &mut propositions[..PROPOSITIONS],
+            &mut props[..PROPOSITIONS],
             &mut work[..WORK],
         )
     } else {
-        clear_rooms(tree, goals, propositions, work);
+        clear_rooms(tree, goals, props, work);
         Mark::Refused(1, 0)
     }
 }

@@ -5,8 +5,8 @@ use mathlib.Core.List.{List}
 use Prim.Native.Nat.{ℕ, _<_, _≤_}
 use lib.ListN.{length}
 use borrow.Author.Tests.{le-leb, lt-leb}
-use Rattle.number.specs.declared.record.Record.{Record}
-use Rattle.number.specs.Records.{Put}
+use Rattle.numbers.specs.declared.record.Record.{Record}
+use Rattle.numbers.specs.Records.{Put}
 use Rattle.export.specs.Answer.{answer-bytes, answered, no-room, Written, ReturnsAs, Returns}
 
 module _ (A : Type 0) (Right : A → Type 0) (form : A → Record) (Same : Type 0) (a : List ℕ) where

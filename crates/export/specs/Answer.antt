@@ -5,13 +5,13 @@ use mathlib.Core.List.{List, [], _∷_}
 use Prim.Native.Nat.{ℕ}
 use lib.ListN.{length}
 use lib.Dec.{leb}
-use Rattle.number.specs.declared.record.Record.{Record}
-use Rattle.number.specs.Records.{Put}
+use Rattle.numbers.specs.declared.record.Record.{Record}
+use Rattle.numbers.specs.Records.{Put}
 use Rattle.table.specs.declared.Purpose.{Purpose}
 use Rattle.table.specs.declared.Verdict.{Verdict}
 use Rattle.table.specs.declared.Verdict.the-variants as verdict
 use Rattle.table.specs.Tests.{Tested}
-use Rattle.marking.specs.Rooms.{Rooms}
+use Rattle.step.specs.Rooms.{Rooms}
 use Rattle.entry.specs.declared.Counts.{Counts}
 use Rattle.entry.specs.declared.Mark.{Mark}
 use Rattle.entry.specs.declared.Mark.the-variants as mark

@@ -5,7 +5,7 @@ use entry::Counts;
 use entry::Mark;
 use filling::answer::Filled;
 use filling::answer::Which;
-use number::record::Record;
+use numbers::record::Record;
 use table::Verdict;
 
 fn accepted(n: Counts) -> Record

@@ -1,6 +1,6 @@
 // The checker for C: tables and rooms are pointers with lengths, and the answer is a record of bytes (include/sporekettle.h). Any bytes, any lengths.
 ghost use Rattle.table.specs.declared.Purpose.«the-variants».{Check, Filling};
-ghost use Rattle.marking.specs.Rooms.{rooms};
+ghost use Rattle.step.specs.Rooms.{rooms};
 ghost use Rattle.filling.specs.Fill.{lent};
 ghost use Rattle.export.specs.Answer.{TestReturns, CheckReturns, FillReturns};
 use answer::of_filled;
@@ -8,7 +8,7 @@ use answer::of_mark;
 use answer::of_verdict;
 use entry::check;
 use filling::fill;
-use number::record::put;
+use numbers::record::put;
 use table::Purpose;
 use table::test_table;
 
@@ -53,16 +53,16 @@ pub extern "C" fn sporekettle_check(
     file: &[u8],
     tree: &mut [u8],
     goals: &mut [u8],
-    propositions: &mut [u8],
+    props: &mut [u8],
     work: &mut [u8],
     answer: &mut [u8],
 ) -> u32
-    ensures { λ r. ⌜ CheckReturns (now (file .entry)) (rooms (now (tree .entry)) (now (goals .entry)) (now (propositions .entry)) (now (work .entry))) (rooms (now (tree .exit)) (now (goals .exit)) (now (propositions .exit)) (now (work .exit))) (now (answer .entry)) (now (answer .exit)) r ⌝ }
+    ensures { λ r. ⌜ CheckReturns (now (file .entry)) (rooms (now (tree .entry)) (now (goals .entry)) (now (props .entry)) (now (work .entry))) (rooms (now (tree .exit)) (now (goals .exit)) (now (props .exit)) (now (work .exit))) (now (answer .entry)) (now (answer .exit)) r ⌝ }
 {
     if answer.len() < ANSWER {
         return NO_ROOM;
     }
-    let mark = check(file, tree, goals, propositions, work);
+    let mark = check(file, tree, goals, props, work);
     put(answer, 0, of_mark(mark));
     ANSWERED
 }
@@ -75,17 +75,17 @@ pub extern "C" fn sporekettle_fill(
     filling: &[u8],
     tree: &mut [u8],
     goals: &mut [u8],
-    propositions: &mut [u8],
+    props: &mut [u8],
     work: &mut [u8],
     edited: &mut [u8],
     answer: &mut [u8],
 ) -> u32
-    ensures { λ r. ⌜ FillReturns (lent (now (tree .entry)) (now (goals .entry)) (now (propositions .entry)) (now (work .entry)) (now (edited .entry))) (lent (now (tree .exit)) (now (goals .exit)) (now (propositions .exit)) (now (work .exit)) (now (edited .exit))) (now (old .entry)) (now (filling .entry)) goal (now (answer .entry)) (now (answer .exit)) r ⌝ }
+    ensures { λ r. ⌜ FillReturns (lent (now (tree .entry)) (now (goals .entry)) (now (props .entry)) (now (work .entry)) (now (edited .entry))) (lent (now (tree .exit)) (now (goals .exit)) (now (props .exit)) (now (work .exit)) (now (edited .exit))) (now (old .entry)) (now (filling .entry)) goal (now (answer .entry)) (now (answer .exit)) r ⌝ }
 {
     if answer.len() < ANSWER {
         return NO_ROOM;
     }
-    let filled = fill(old, goal, filling, tree, goals, propositions, work, edited);
+    let filled = fill(old, goal, filling, tree, goals, props, work, edited);
     put(answer, 0, of_filled(filled));
     ANSWERED
 }

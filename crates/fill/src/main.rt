@@ -31,7 +31,7 @@ fn refused(n: u8, place: u16, which: Which) {
 fn answer(old: &[u8], goal: u16, filling: &[u8], edited: &mut [u8]) -> bool {
     let mut tree = [0u8; TREE];
     let mut goals = [0u8; GOALS];
-    let mut propositions = [0u8; PROPOSITIONS];
+    let mut props = [0u8; PROPOSITIONS];
     let mut work = [0u8; WORK];
     match fill(
         old,
@@ -39,7 +39,7 @@ fn answer(old: &[u8], goal: u16, filling: &[u8], edited: &mut [u8]) -> bool {
         filling,
         &mut tree,
         &mut goals,
-        &mut propositions,
+        &mut props,
         &mut work,
         edited,
     ) {
@@ -48,7 +48,7 @@ fn answer(old: &[u8], goal: u16, filling: &[u8], edited: &mut [u8]) -> bool {
             false
         }
         Filled::Accepted(c) => {
-            show::tree::short(&tree, &goals, &propositions, c.records, c.goals);
+            show::tree::short(&tree, &goals, &props, c.records, c.goals);
             true
         }
     }

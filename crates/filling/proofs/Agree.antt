@@ -29,7 +29,7 @@ use Rattle.table.proofs.Fills.{table-fills}
 use Rattle.editing.specs.Edited.{Fillable, Edited}
 use Rattle.editing.proofs.Edits.{goal-fillable, whole-prop, filled-term, filling-place, edited-verdict}
 use Rattle.editing.proofs.Joins.{expected-joined}
-use Rattle.marking.specs.Rooms.{Rooms}
+use Rattle.step.specs.Rooms.{Rooms}
 use Rattle.entry.specs.declared.Counts.{Counts}
 use Rattle.entry.specs.declared.Mark.{Mark}
 use Rattle.entry.specs.declared.Mark.the-variants as mark

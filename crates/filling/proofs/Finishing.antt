@@ -5,17 +5,17 @@ use Prim.Native.Nat.{ℕ, _+_, _-_, _*_, _<_, _≤_}
 use native.Mathlib.Omega.{arith}
 use lib.ListN.{length, getD, take}
 use lib.Seq.{length-take-le, getD-take, ext-getD}
-use Rattle.number.specs.declared.Term.{Term}
-use Rattle.number.specs.Rooms.{cleared}
+use Rattle.numbers.specs.declared.Term.{Term}
+use Rattle.numbers.specs.Rooms.{cleared}
 use Rattle.rules.specs.State.{St}
 use Rattle.rules.specs.Tree.{Gap, records, holes}
 use Rattle.rules.specs.Step.{Out, refused, ok, Answer}
 use Rattle.editing.specs.Edited.{edited-bytes}
-use Rattle.making.specs.Copy.{most-records}
-use Rattle.marking.specs.declared.state.State.{State}
-use Rattle.marking.specs.declared.state.Checked.{Checked}
-use Rattle.marking.specs.declared.state.Checked.the-variants as checked
-use Rattle.marking.specs.Rooms.{Rooms, stOf, countOf}
+use Rattle.arena.specs.Copy.{most-records}
+use Rattle.step.specs.declared.state.State.{State}
+use Rattle.step.specs.declared.state.Checked.{Checked}
+use Rattle.step.specs.declared.state.Checked.the-variants as checked
+use Rattle.step.specs.Rooms.{Rooms, stOf, countOf}
 use Rattle.entry.specs.Mark.{tree-bytes, goals-bytes, props-bytes}
 use Rattle.entry.specs.Rest.{Trimmed, Rest}
 use Rattle.entry.specs.Ran.{Exact, Ran, RanAs}

@@ -9,7 +9,7 @@ use borrow.Author.Tests.{leb-true}
 use lib.ListN.{length, take, drop, length-take}
 use lib.Dec.{leb, ltb}
 use lib.Seq.{length-take-le, take-append-le}
-use Rattle.number.specs.Rooms.{cleared}
+use Rattle.numbers.specs.Rooms.{cleared}
 use Rattle.rules.specs.State.{St}
 use Rattle.rules.specs.Tree.{Gap, holes}
 use Rattle.rules.specs.Step.{Out, refused, ok, Answer}
@@ -20,7 +20,7 @@ use Rattle.table.specs.declared.Verdict.the-variants as verdict
 use Rattle.table.specs.Tests.{tests}
 use Rattle.table.specs.Reading.{termAt}
 use Rattle.editing.specs.Edited.{edited-bytes, edited-tests}
-use Rattle.marking.specs.Rooms.{Rooms, rooms}
+use Rattle.step.specs.Rooms.{Rooms, rooms}
 use Rattle.entry.specs.Mark.{tree-bytes, goals-bytes, props-bytes, work-bytes, long-enough, table-run}
 use Rattle.entry.specs.Ran.{Exact}
 use Rattle.entry.proofs.Rests.{cleared-exact, cleared-parts, cleared-front}

@@ -26,7 +26,7 @@ use Rattle.editing.specs.Renumbered.{StandsFor}
 use Rattle.editing.proofs.Edits.{goal-fillable, edited-good}
 use Rattle.editing.proofs.Alike.{edited-unique}
 use Rattle.editing.proofs.Renumbered.{edited-stands-for}
-use Rattle.marking.proofs.Goals.{few-goals, goal-unique}
+use Rattle.step.proofs.Goals.{few-goals, goal-unique}
 use Rattle.entry.specs.declared.Counts.{Counts}
 use Rattle.entry.specs.Mark.{root-run, table-run}
 use Rattle.entry.specs.Promises.{SameTree}

@@ -5,11 +5,11 @@ use mathlib.Core.List.{List, []}
 use Prim.Native.Nat.{ℕ, _+_, _*_, _<_, _≤_}
 use native.Mathlib.Omega.{arith}
 use lib.ListN.{length}
-use Rattle.number.specs.declared.Type.{«Type» as Sort}
-use Rattle.number.specs.declared.Type.the-variants as sort
-use Rattle.number.specs.Limits.{most-propositions, most-terms}
-use Rattle.number.specs.declared.record.Record.{Record}
-use Rattle.number.specs.Records.{recordAt, Put, Same}
+use Rattle.numbers.specs.declared.Sort.{Sort}
+use Rattle.numbers.specs.declared.Sort.the-variants as sort
+use Rattle.numbers.specs.Limits.{most-propositions, most-terms}
+use Rattle.numbers.specs.declared.record.Record.{Record}
+use Rattle.numbers.specs.Records.{recordAt, Put, Same}
 use Rattle.layout.specs.File.{props, terms, expected}
 use Rattle.rules.specs.Prop.{Ty, Prop, prop}
 use Rattle.rules.specs.Context.{Ctx}
@@ -35,17 +35,17 @@ use Rattle.prop.specs.Room.{roomAt, Arena}
 use Rattle.prop.proofs.Rooms.{room-same, arena-less}
 use Rattle.context.specs.Context.{most-entries}
 use Rattle.context.proofs.Laws.{ctx-none}
-use Rattle.making.specs.Load as load
-use Rattle.marking.specs.declared.picture.Start.{Start}
-use Rattle.marking.specs.declared.state.State.{State}
-use Rattle.marking.specs.declared.state.Checked.{Checked}
-use Rattle.marking.specs.declared.state.Checked.the-variants as checked
-use Rattle.marking.specs.Rooms.{Rooms, rooms, reads, ctxOf, countOf, Loaded, first-pictured}
-use Rattle.marking.specs.Picture.{asked, picturedState, picturedType, PictureIs, PicturesAre, Copied, StartsAt}
-use Rattle.marking.specs.Contract.{Ready, Accepts, CheckedAs, CheckMeets, runOf}
-use Rattle.marking.proofs.Pictures.{picture-at, recalled}
-use Rattle.marking.proofs.Starts.{nothing}
-use Rattle.marking.proofs.Goals.{goal-unique, picture-moved, ready-hole}
+use Rattle.arena.specs.Load as load
+use Rattle.step.specs.declared.picture.Start.{Start}
+use Rattle.step.specs.declared.state.State.{State}
+use Rattle.step.specs.declared.state.Checked.{Checked}
+use Rattle.step.specs.declared.state.Checked.the-variants as checked
+use Rattle.step.specs.Rooms.{Rooms, rooms, reads, ctxOf, countOf, Loaded, first-pictured}
+use Rattle.step.specs.Picture.{asked, picturedState, picturedType, PictureIs, PicturesAre, Copied, StartsAt}
+use Rattle.step.specs.Contract.{Ready, Accepts, CheckedAs, CheckMeets, runOf}
+use Rattle.step.proofs.Pictures.{picture-at, recalled}
+use Rattle.step.proofs.Starts.{nothing}
+use Rattle.step.proofs.Goals.{goal-unique, picture-moved, ready-hole}
 use Rattle.entry.specs.Mark.{root-run}
 use Rattle.entry.specs.Ran.{Exact}
 use Rattle.filling.specs.Steps.{GoalOf, ReachedFor}

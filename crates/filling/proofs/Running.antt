@@ -4,8 +4,8 @@ use mathlib.Core.List.{List}
 use Prim.Native.Nat.{ℕ, _+_, _*_, _<_, _≤_}
 use native.Mathlib.Omega.{arith}
 use lib.ListN.{length}
-use Rattle.number.specs.declared.Type.{«Type» as Sort}
-use Rattle.number.specs.Limits.{most-terms}
+use Rattle.numbers.specs.declared.Sort.{Sort}
+use Rattle.numbers.specs.Limits.{most-terms}
 use Rattle.layout.specs.File.{props, terms}
 use Rattle.rules.specs.Prop.{Ty}
 use Rattle.rules.specs.Context.{Ctx}
@@ -20,15 +20,15 @@ use Rattle.table.specs.Reading.{termAt}
 use Rattle.table.proofs.Passing.{good-passed}
 use Rattle.editing.specs.Edited.{Fillable, Edited}
 use Rattle.editing.proofs.Edits.{filling-nodes}
-use Rattle.making.specs.Copy.{most-records}
-use Rattle.marking.specs.declared.picture.Start.{Start}
-use Rattle.marking.specs.declared.state.State.{State}
-use Rattle.marking.specs.declared.state.Checked.{Checked}
-use Rattle.marking.specs.declared.state.Checked.the-variants as checked
-use Rattle.marking.specs.Rooms.{Rooms, reads, ctxOf, stOf, countOf}
+use Rattle.arena.specs.Copy.{most-records}
+use Rattle.step.specs.declared.picture.Start.{Start}
+use Rattle.step.specs.declared.state.State.{State}
+use Rattle.step.specs.declared.state.Checked.{Checked}
+use Rattle.step.specs.declared.state.Checked.the-variants as checked
+use Rattle.step.specs.Rooms.{Rooms, reads, ctxOf, stOf, countOf}
 use Rattle.prop.specs.Room.{TypeIn}
-use Rattle.marking.specs.Contract.{Ready, Accepts, CheckedAs, CheckMeets, runOf}
-use Rattle.marking.specs.Trees.{TreesAre}
+use Rattle.step.specs.Contract.{Ready, Accepts, CheckedAs, CheckMeets, runOf}
+use Rattle.step.specs.Trees.{TreesAre}
 use Rattle.entry.specs.Ran.{Exact, Ran, RanAs}
 use Rattle.filling.specs.Steps.{ExactAll, GoalOf, HoleAt, ReachedFor, Reached, Fitting, Finishes, RunsFilling}
 use Rattle.filling.specs.declared.answer.Filled.{Filled}

@@ -7,7 +7,7 @@ use native.Mathlib.Omega.{arith}
 use borrow.Author.Tests.{lt-ltb, le-ltb}
 use lib.ListN.{length}
 use lib.Dec.{ltb}
-use Rattle.number.specs.Records.{wordAt}
+use Rattle.numbers.specs.Records.{wordAt}
 use Rattle.rules.specs.State.{St}
 use Rattle.rules.specs.Tree.{Gap, holes}
 use Rattle.rules.specs.Step.{Out, refused, ok, Answer}
@@ -20,9 +20,9 @@ use Rattle.table.specs.Passing.{Good}
 use Rattle.table.specs.Reading.{termAt}
 use Rattle.editing.specs.Edited.{Bytes, Fillable, Edited, edited-tests}
 use Rattle.editing.proofs.Edits.{goal-fillable}
-use Rattle.marking.specs.Rooms.{Rooms}
-use Rattle.marking.specs.Trees.{goalAt}
-use Rattle.marking.proofs.Goals.{goal-term, goal-place}
+use Rattle.step.specs.Rooms.{Rooms}
+use Rattle.step.specs.Trees.{goalAt}
+use Rattle.step.proofs.Goals.{goal-term, goal-place}
 use Rattle.entry.specs.declared.Counts.{Counts}
 use Rattle.entry.specs.declared.Mark.{Mark}
 use Rattle.entry.specs.declared.Mark.the-variants as mark

@@ -15,7 +15,7 @@ use Rattle.table.specs.declared.Purpose.the-variants.{Filling}
 use Rattle.table.specs.declared.Verdict.the-variants.{Passes}
 use Rattle.table.specs.Tests.{tests}
 use Rattle.table.specs.Reading.{termAt}
-use Rattle.marking.specs.Rooms.{Rooms}
+use Rattle.step.specs.Rooms.{Rooms}
 use Rattle.entry.specs.declared.Counts.{Counts}
 use Rattle.entry.specs.declared.Mark.{Mark}
 use Rattle.entry.specs.declared.Mark.the-variants as mark

@@ -6,7 +6,7 @@ use mathlib.Core.List.{List}
 use Prim.Native.Nat.{ℕ, _-_}
 use lib.ListN.{length, take}
 use lib.Dec.{leb, ltb}
-use Rattle.number.specs.Rooms.{cleared}
+use Rattle.numbers.specs.Rooms.{cleared}
 use Rattle.rules.specs.State.{St}
 use Rattle.rules.specs.Tree.{Gap, records, holes}
 use Rattle.rules.specs.Step.{Out, refused, ok, Answer}
@@ -17,7 +17,7 @@ use Rattle.table.specs.declared.Verdict.the-variants as verdict
 use Rattle.table.specs.Tests.{tests}
 use Rattle.table.specs.Reading.{termAt}
 use Rattle.editing.specs.Edited.{edited-bytes, Bytes, Edited, edited-tests}
-use Rattle.marking.specs.Rooms.{Rooms, rooms}
+use Rattle.step.specs.Rooms.{Rooms, rooms}
 use Rattle.entry.specs.declared.Counts.{Counts}
 use Rattle.entry.specs.Mark.{long-enough, table-run, Emptied, Kept}
 use Rattle.filling.specs.declared.answer.Which.{Which}

@@ -3,7 +3,7 @@ use mathlib.Core.Path.{_≡_}
 use mathlib.Core.List.{List}
 use Prim.Native.Nat.{ℕ, _*_, _<_, _≤_}
 use lib.ListN.{length}
-use Rattle.number.specs.Records.{recordAt}
+use Rattle.numbers.specs.Records.{recordAt}
 use Rattle.layout.specs.File.{props}
 use Rattle.rules.specs.State.{St}
 use Rattle.rules.specs.Tree.{Gap, holes}
@@ -14,14 +14,14 @@ use Rattle.table.specs.Tests.{tests}
 use Rattle.table.specs.Reading.{termAt}
 use Rattle.table.specs.Passing.{Good}
 use Rattle.editing.specs.Edited.{edited-bytes}
-use Rattle.making.specs.Copy.{most-records}
-use Rattle.making.specs.Load.{loadedRecord}
-use Rattle.marking.specs.declared.picture.Start.{Start}
-use Rattle.marking.specs.declared.state.Checked.{Checked}
-use Rattle.marking.specs.declared.state.Checked.the-variants as checked
-use Rattle.marking.specs.Rooms.{Rooms, countOf}
-use Rattle.marking.specs.Picture.{StartsAt}
-use Rattle.marking.specs.Contract.{Ready}
+use Rattle.arena.specs.Copy.{most-records}
+use Rattle.arena.specs.Load.{loadedRecord}
+use Rattle.step.specs.declared.picture.Start.{Start}
+use Rattle.step.specs.declared.state.Checked.{Checked}
+use Rattle.step.specs.declared.state.Checked.the-variants as checked
+use Rattle.step.specs.Rooms.{Rooms, countOf}
+use Rattle.step.specs.Picture.{StartsAt}
+use Rattle.step.specs.Contract.{Ready}
 use Rattle.entry.specs.Mark.{tree-bytes, goals-bytes, root-run, Holds}
 use Rattle.entry.specs.Ran.{Exact, RanAs}
 use Rattle.filling.specs.declared.answer.Filled.{Filled}

@@ -3,7 +3,7 @@ ghost use Rattle.filling.specs.Fill.{lent, Refuses};
 use editing::EDITED;
 use entry::Counts;
 use entry::rooms::clear_rooms;
-use number::room::clear;
+use numbers::room::clear;
 
 // The table that a refusal's place is in.
 pub enum Which {
@@ -22,16 +22,16 @@ pub enum Filled {
 pub fn refuse(
     tree: &mut [u8],
     goals: &mut [u8],
-    propositions: &mut [u8],
+    props: &mut [u8],
     work: &mut [u8],
     edited: &mut [u8],
     n: u8,
     place: u16,
     which: Which,
 ) -> Filled
-    ensures { λ r. ⌜ Refuses (lent (now (tree .entry)) (now (goals .entry)) (now (propositions .entry)) (now (work .entry)) (now (edited .entry))) (lent (now (tree .exit)) (now (goals .exit)) (now (propositions .exit)) (now (work .exit)) (now (edited .exit))) n place which r ⌝ }
+    ensures { λ r. ⌜ Refuses (lent (now (tree .entry)) (now (goals .entry)) (now (props .entry)) (now (work .entry)) (now (edited .entry))) (lent (now (tree .exit)) (now (goals .exit)) (now (props .exit)) (now (work .exit)) (now (edited .exit))) n place which r ⌝ }
 {
-    clear_rooms(tree, goals, propositions, work);
+    clear_rooms(tree, goals, props, work);
     clear(edited, EDITED);
     Filled::Refused(n, place, which)
 }

@@ -1,7 +1,7 @@
 // Floor 7: filling a goal. The old table and its check, the filling's tests, the edited table, and the filling's run from what was known at the hole.
 // Refusals come in document 01's order.
 ghost use Rattle.editing.specs.Edited.{Fillable};
-ghost use Rattle.marking.specs.Rooms.{rooms};
+ghost use Rattle.step.specs.Rooms.{rooms};
 ghost use Rattle.entry.specs.Mark.{«table-run»};
 ghost use Rattle.filling.specs.Fill.{lent, OldAs, Fills};
 ghost use Rattle.filling.specs.Steps.{ExactAll, OldRan, HoleAt, FillsHole, FillsGoal};
@@ -19,8 +19,8 @@ use entry::rooms::PROPOSITIONS;
 use entry::rooms::TREE;
 use entry::rooms::WORK;
 use entry::rooms::long_enough;
-use number::Term;
-use number::record::word;
+use numbers::Term;
+use numbers::record::word;
 use run::run_filling;
 use table::Purpose;
 use table::Verdict;
@@ -38,28 +38,19 @@ fn fill_hole(
     hole: Term,
     tree: &mut [u8],
     goals: &mut [u8],
-    propositions: &mut [u8],
+    props: &mut [u8],
     work: &mut [u8],
     edited: &mut [u8],
 ) -> Filled
     requires { ⌜ Fillable (now old) (now filling) (hole .0) ⌝ }
     requires { ⌜ HoleAt (now old) goal (hole .0) ⌝ }
-    requires { ⌜ ExactAll (lent (now tree) (now goals) (now propositions) (now work) (now edited)) ⌝ }
-    ensures { λ r. ⌜ FillsHole (lent (now (tree .entry)) (now (goals .entry)) (now (propositions .entry)) (now (work .entry)) (now (edited .entry))) (lent (now (tree .exit)) (now (goals .exit)) (now (propositions .exit)) (now (work .exit)) (now (edited .exit))) (now (old .entry)) (now (filling .entry)) goal r ⌝ }
+    requires { ⌜ ExactAll (lent (now tree) (now goals) (now props) (now work) (now edited)) ⌝ }
+    ensures { λ r. ⌜ FillsHole (lent (now (tree .entry)) (now (goals .entry)) (now (props .entry)) (now (work .entry)) (now (edited .entry))) (lent (now (tree .exit)) (now (goals .exit)) (now (props .exit)) (now (work .exit)) (now (edited .exit))) (now (old .entry)) (now (filling .entry)) goal r ⌝ }
 {
     let size = edited_size(old, filling);
     edit(old, filling, hole, &mut edited[..size]);
     if let Verdict::Refused(n, place) = test_edited(&edited[..size], work) {
-        return refuse(
-            tree,
-            goals,
-            propositions,
-            work,
-            edited,
-            n,
-            place,
-            Which::Edit,
-        );
+        return refuse(tree, goals, props, work, edited, n, place, Which::Edit);
     }
     run_filling(
         old,
@@ -68,7 +59,7 @@ fn fill_hole(
         hole,
         tree,
         goals,
-        propositions,
+        props,
         work,
         edited,
         size,
@@ -82,42 +73,23 @@ fn fill_goal(
     filling: &[u8],
     tree: &mut [u8],
     goals: &mut [u8],
-    propositions: &mut [u8],
+    props: &mut [u8],
     work: &mut [u8],
     edited: &mut [u8],
     count: u16,
 ) -> Filled
-    requires { ⌜ OldRan (now old) (rooms (now tree) (now goals) (now propositions) (now work)) count ⌝ }
-    requires { ⌜ ExactAll (lent (now tree) (now goals) (now propositions) (now work) (now edited)) ⌝ }
-    ensures { λ r. ⌜ FillsGoal (lent (now (tree .entry)) (now (goals .entry)) (now (propositions .entry)) (now (work .entry)) (now (edited .entry))) (lent (now (tree .exit)) (now (goals .exit)) (now (propositions .exit)) (now (work .exit)) (now (edited .exit))) (now (old .entry)) (now (filling .entry)) goal r ⌝ }
+    requires { ⌜ OldRan (now old) (rooms (now tree) (now goals) (now props) (now work)) count ⌝ }
+    requires { ⌜ ExactAll (lent (now tree) (now goals) (now props) (now work) (now edited)) ⌝ }
+    ensures { λ r. ⌜ FillsGoal (lent (now (tree .entry)) (now (goals .entry)) (now (props .entry)) (now (work .entry)) (now (edited .entry))) (lent (now (tree .exit)) (now (goals .exit)) (now (props .exit)) (now (work .exit)) (now (edited .exit))) (now (old .entry)) (now (filling .entry)) goal r ⌝ }
 {
     if let Verdict::Refused(n, place) = test_table(filling, work, Purpose::Filling) {
-        return refuse(
-            tree,
-            goals,
-            propositions,
-            work,
-            edited,
-            n,
-            place,
-            Which::Filling,
-        );
+        return refuse(tree, goals, props, work, edited, n, place, Which::Filling);
     }
     if count <= goal {
-        return refuse(tree, goals, propositions, work, edited, 31, 0, Which::Old);
+        return refuse(tree, goals, props, work, edited, 31, 0, Which::Old);
     }
     let hole = Term(word(goals, 8 * (goal as usize)));
-    fill_hole(
-        old,
-        goal,
-        filling,
-        hole,
-        tree,
-        goals,
-        propositions,
-        work,
-        edited,
-    )
+    fill_hole(old, goal, filling, hole, tree, goals, props, work, edited)
 }
 
 // Any tables, in rooms of just the listed sizes.
@@ -127,39 +99,20 @@ fn fill_table(
     filling: &[u8],
     tree: &mut [u8],
     goals: &mut [u8],
-    propositions: &mut [u8],
+    props: &mut [u8],
     work: &mut [u8],
     edited: &mut [u8],
 ) -> Filled
-    requires { ⌜ ExactAll (lent (now tree) (now goals) (now propositions) (now work) (now edited)) ⌝ }
-    ensures { λ r. ⌜ OldAs (lent (now (tree .entry)) (now (goals .entry)) (now (propositions .entry)) (now (work .entry)) (now (edited .entry))) (lent (now (tree .exit)) (now (goals .exit)) (now (propositions .exit)) (now (work .exit)) (now (edited .exit))) (now (old .entry)) (now (filling .entry)) goal r («table-run» (now (old .entry))) ⌝ }
+    requires { ⌜ ExactAll (lent (now tree) (now goals) (now props) (now work) (now edited)) ⌝ }
+    ensures { λ r. ⌜ OldAs (lent (now (tree .entry)) (now (goals .entry)) (now (props .entry)) (now (work .entry)) (now (edited .entry))) (lent (now (tree .exit)) (now (goals .exit)) (now (props .exit)) (now (work .exit)) (now (edited .exit))) (now (old .entry)) (now (filling .entry)) goal r («table-run» (now (old .entry))) ⌝ }
 {
-    match check_table(old, tree, goals, propositions, work) {
+    match check_table(old, tree, goals, props, work) {
         Mark::Refused(n, place) => {
-            refuse(
-                tree,
-                goals,
-                propositions,
-                work,
-                edited,
-                n,
-                place,
-                Which::Old,
-            )
+            refuse(tree, goals, props, work, edited, n, place, Which::Old)
         }
         Mark::Accepted(c) => {
             let count = c.goals;
-            fill_goal(
-                old,
-                goal,
-                filling,
-                tree,
-                goals,
-                propositions,
-                work,
-                edited,
-                count,
-            )
+            fill_goal(old, goal, filling, tree, goals, props, work, edited, count)
         }
     }
 }
@@ -171,24 +124,24 @@ pub fn fill(
     filling: &[u8],
     tree: &mut [u8],
     goals: &mut [u8],
-    propositions: &mut [u8],
+    props: &mut [u8],
     work: &mut [u8],
     edited: &mut [u8],
 ) -> Filled
-    ensures { λ r. ⌜ Fills (lent (now (tree .entry)) (now (goals .entry)) (now (propositions .entry)) (now (work .entry)) (now (edited .entry))) (lent (now (tree .exit)) (now (goals .exit)) (now (propositions .exit)) (now (work .exit)) (now (edited .exit))) (now (old .entry)) (now (filling .entry)) goal r ⌝ }
+    ensures { λ r. ⌜ Fills (lent (now (tree .entry)) (now (goals .entry)) (now (props .entry)) (now (work .entry)) (now (edited .entry))) (lent (now (tree .exit)) (now (goals .exit)) (now (props .exit)) (now (work .exit)) (now (edited .exit))) (now (old .entry)) (now (filling .entry)) goal r ⌝ }
 {
-    if long_enough(tree, goals, propositions, work) & (EDITED <= edited.len()) {
+    if long_enough(tree, goals, props, work) & (EDITED <= edited.len()) {
         fill_table(
             old,
             goal,
             filling,
             &mut tree[..TREE],
             &mut goals[..GOALS],
-            &mut propositions[..PROPOSITIONS],
+            &mut props[..PROPOSITIONS],
             &mut work[..WORK],
             &mut edited[..EDITED],
         )
     } else {
-        refuse(tree, goals, propositions, work, edited, 1, 0, Which::Old)
+        refuse(tree, goals, props, work, edited, 1, 0, Which::Old)
     }
 }

@@ -2,20 +2,20 @@
 ghost use mathlib.Core.Path.{_≡_};
 ghost use Rattle.table.specs.Passing.{Counted};
 ghost use Rattle.editing.specs.Edited.{Fillable, Edited};
-ghost use Rattle.marking.specs.Rooms.{rooms};
+ghost use Rattle.step.specs.Rooms.{rooms};
 ghost use Rattle.entry.specs.Ran.{Exact};
 ghost use Rattle.filling.specs.Steps.{HoleAt, Reached};
+use arena::load::load;
 use checker::chk;
 use editing::put_term;
 use editing::term_record;
 use layout::header::expected_field;
-use making::load::load;
-use marking::picture::Start;
-use marking::picture::ask;
-use marking::picture::recall;
-use marking::state::State;
-use number::Term;
-use number::Type;
+use numbers::Sort;
+use numbers::Term;
+use step::picture::Start;
+use step::picture::ask;
+use step::picture::recall;
+use step::state::State;
 
 // The table is the edited one. While the old terms run, the old Sorry record stands in its place.
 pub fn reach(
@@ -25,21 +25,21 @@ pub fn reach(
     hole: Term,
     tree: &mut [u8],
     goals: &mut [u8],
-    propositions: &mut [u8],
+    props: &mut [u8],
     work: &mut [u8],
     table: &mut [u8],
 ) -> Start
     requires { ⌜ Fillable (now old) (now filling) (hole .0) ⌝ }
     requires { ⌜ HoleAt (now old) goal (hole .0) ⌝ }
     requires { ⌜ Edited (now old) (now filling) (hole .0) (now table) × Counted (now table) ⌝ }
-    requires { ⌜ Exact (rooms (now tree) (now goals) (now propositions) (now work)) ⌝ }
-    ensures { λ s. ⌜ (now (table .exit) ≡ now (table .entry)) × Reached (now (old .entry)) goal (now (table .entry)) (rooms (now (tree .exit)) (now (goals .exit)) (now (propositions .exit)) (now (work .exit))) s ⌝ }
+    requires { ⌜ Exact (rooms (now tree) (now goals) (now props) (now work)) ⌝ }
+    ensures { λ s. ⌜ (now (table .exit) ≡ now (table .entry)) × Reached (now (old .entry)) goal (now (table .entry)) (rooms (now (tree .exit)) (now (goals .exit)) (now (props .exit)) (now (work .exit))) s ⌝ }
 {
-    load(table, work, propositions);
+    load(table, work, props);
     ask(work, goal);
     let root = term_record(table, hole);
     put_term(table, hole, term_record(old, hole));
-    let wanted = Type::Proposition(expected_field(table));
+    let wanted = Sort::Proposition(expected_field(table));
     let nothing = State {
         records: 0,
         goals: 0,
@@ -47,16 +47,7 @@ pub fn reach(
         made: 0,
         context: 0,
     };
-    chk::check(
-        table,
-        tree,
-        goals,
-        propositions,
-        work,
-        Term(0),
-        wanted,
-        nothing,
-    );
+    chk::check(table, tree, goals, props, work, Term(0), wanted, nothing);
     put_term(table, hole, root);
     recall(work)
 }

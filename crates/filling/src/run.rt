@@ -4,7 +4,7 @@ ghost use lib.ListN.{length, take};
 ghost use Rattle.table.specs.declared.Purpose.«the-variants».{Check};
 ghost use Rattle.table.specs.Passing.{Good};
 ghost use Rattle.editing.specs.Edited.{Fillable, Edited};
-ghost use Rattle.marking.specs.Rooms.{rooms};
+ghost use Rattle.step.specs.Rooms.{rooms};
 ghost use Rattle.filling.specs.Fill.{lent};
 ghost use Rattle.filling.specs.Steps.{ExactAll, HoleAt, Fitting, Finishes, RunsFilling};
 use super::answer::Filled;
@@ -16,34 +16,34 @@ use editing::EDITED;
 use entry::Counts;
 use entry::rooms::clear_rest;
 use entry::rooms::trim;
-use marking::state::Checked;
-use marking::state::count_of;
-use number::Term;
+use numbers::Term;
+use step::state::Checked;
+use step::state::count_of;
 
 // The answer, and the rooms cleaned after the run; the edited table has so many bytes, and the run began with so many serials.
 fn finish(
     tree: &mut [u8],
     goals: &mut [u8],
-    propositions: &mut [u8],
+    props: &mut [u8],
     work: &mut [u8],
     edited: &mut [u8],
     size: usize,
     serials: u16,
     answer: Checked,
 ) -> Filled
-    requires { ⌜ ExactAll (lent (now tree) (now goals) (now propositions) (now work) (now edited)) ⌝ }
-    requires { ⌜ Fitting (take size (now edited)) size serials (rooms (now tree) (now goals) (now propositions) (now work)) answer ⌝ }
+    requires { ⌜ ExactAll (lent (now tree) (now goals) (now props) (now work) (now edited)) ⌝ }
+    requires { ⌜ Fitting (take size (now edited)) size serials (rooms (now tree) (now goals) (now props) (now work)) answer ⌝ }
     requires { ⌜ size ≤ length (now edited) ⌝ }
-    ensures { λ r. ⌜ Finishes (lent (now (tree .entry)) (now (goals .entry)) (now (propositions .entry)) (now (work .entry)) (now (edited .entry))) (lent (now (tree .exit)) (now (goals .exit)) (now (propositions .exit)) (now (work .exit)) (now (edited .exit))) (take size (now (edited .entry))) serials answer r ⌝ }
+    ensures { λ r. ⌜ Finishes (lent (now (tree .entry)) (now (goals .entry)) (now (props .entry)) (now (work .entry)) (now (edited .entry))) (lent (now (tree .exit)) (now (goals .exit)) (now (props .exit)) (now (work .exit)) (now (edited .exit))) (take size (now (edited .entry))) serials answer r ⌝ }
 {
     match answer {
         Checked::Refused(n, place) => {
             let p = place.0;
-            refuse(tree, goals, propositions, work, edited, n, p, Which::Edit)
+            refuse(tree, goals, props, work, edited, n, p, Which::Edit)
         }
         Checked::Fits(st) => {
             let count = count_of(&edited[..size], st);
-            clear_rest(tree, goals, propositions, work, st.records, st.goals, count);
+            clear_rest(tree, goals, props, work, st.records, st.goals, count);
             trim(edited, size, EDITED);
             Filled::Accepted(Counts {
                 records: st.records,
@@ -63,7 +63,7 @@ pub fn run_filling(
     hole: Term,
     tree: &mut [u8],
     goals: &mut [u8],
-    propositions: &mut [u8],
+    props: &mut [u8],
     work: &mut [u8],
     edited: &mut [u8],
     size: usize,
@@ -72,8 +72,8 @@ pub fn run_filling(
     requires { ⌜ HoleAt (now old) goal (hole .0) ⌝ }
     requires { ⌜ (size ≤ length (now edited)) × Edited (now old) (now filling) (hole .0) (take size (now edited)) ⌝ }
     requires { ⌜ Good Check (take size (now edited)) ⌝ }
-    requires { ⌜ ExactAll (lent (now tree) (now goals) (now propositions) (now work) (now edited)) ⌝ }
-    ensures { λ r. ⌜ RunsFilling (lent (now (tree .entry)) (now (goals .entry)) (now (propositions .entry)) (now (work .entry)) (now (edited .entry))) (lent (now (tree .exit)) (now (goals .exit)) (now (propositions .exit)) (now (work .exit)) (now (edited .exit))) (now (old .entry)) goal (take size (now (edited .entry))) r ⌝ }
+    requires { ⌜ ExactAll (lent (now tree) (now goals) (now props) (now work) (now edited)) ⌝ }
+    ensures { λ r. ⌜ RunsFilling (lent (now (tree .entry)) (now (goals .entry)) (now (props .entry)) (now (work .entry)) (now (edited .entry))) (lent (now (tree .exit)) (now (goals .exit)) (now (props .exit)) (now (work .exit)) (now (edited .exit))) (now (old .entry)) goal (take size (now (edited .entry))) r ⌝ }
 {
     let start = reach(
         old,
@@ -82,31 +82,13 @@ pub fn run_filling(
         hole,
         tree,
         goals,
-        propositions,
+        props,
         work,
         &mut edited[..size],
     );
     let wanted = start.wanted;
     let st = start.state;
     let serials = st.serials;
-    let answer = chk::check(
-        &edited[..size],
-        tree,
-        goals,
-        propositions,
-        work,
-        hole,
-        wanted,
-        st,
-    );
-    finish(
-        tree,
-        goals,
-        propositions,
-        work,
-        edited,
-        size,
-        serials,
-        answer,
-    )
+    let answer = chk::check(&edited[..size], tree, goals, props, work, hole, wanted, st);
+    finish(tree, goals, props, work, edited, size, serials, answer)
 }

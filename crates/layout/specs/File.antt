@@ -4,8 +4,8 @@ use mathlib.Core.List.{List, [], _∷_}
 use mathlib.Core.Bool.{Bool, true, false}
 use Prim.Native.Nat.{ℕ, _+_}
 use lib.ListN.{getD}
-use Rattle.number.specs.declared.record.Record.{Record}
-use Rattle.number.specs.Records.{wordAt, recordAt}
+use Rattle.numbers.specs.declared.record.Record.{Record}
+use Rattle.numbers.specs.Records.{wordAt, recordAt}
 use Rattle.rules.specs.Prop.{Link, and, or, imp, Quant, all, ex}
 use Rattle.layout.specs.declared.record.TermRecord.{TermRecord}
 

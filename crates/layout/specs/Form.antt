@@ -5,7 +5,7 @@ use mathlib.Core.List.{List}
 use Prim.Native.Nat.{ℕ}
 use lib.ListN.{getD}
 use lib.Dec.{eqb, leb, ltb}
-use Rattle.number.specs.declared.record.Record.{Record}
+use Rattle.numbers.specs.declared.record.Record.{Record}
 use Rattle.layout.specs.declared.record.TermRecord.{TermRecord}
 use Rattle.layout.specs.declared.form.PropShape.{PropShape}
 use Rattle.layout.specs.declared.form.TermShape.{TermShape}

@@ -3,8 +3,8 @@ ghost use mathlib.Core.Path.{_≡_};
 ghost use Prim.Native.Nat.{_≤_};
 ghost use lib.ListN.{length};
 ghost use Rattle.layout.specs.File.{props, terms, expected};
-use number::Proposition;
-use number::record::word;
+use numbers::Proposition;
+use numbers::record::word;
 
 pub fn proposition_count(file: &[u8]) -> u16
     requires { ⌜ 16 ≤ length (now file) ⌝ }

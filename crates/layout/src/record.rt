@@ -2,13 +2,13 @@
 ghost use mathlib.Core.Path.{_≡_};
 ghost use Prim.Native.Nat.{_+_, _*_, _≤_};
 ghost use lib.ListN.{length};
-ghost use Rattle.number.specs.Records.{recordAt};
+ghost use Rattle.numbers.specs.Records.{recordAt};
 ghost use Rattle.layout.specs.File.{propRecord, asTerm};
-use number::Name;
-use number::Proposition;
-use number::Term;
-use number::record::Record;
-use number::record::record_at;
+use numbers::Name;
+use numbers::Proposition;
+use numbers::Term;
+use numbers::record::Record;
+use numbers::record::record_at;
 
 // A term's record: sixteen bytes under a term's names.
 pub struct TermRecord {

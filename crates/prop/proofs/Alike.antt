@@ -6,12 +6,12 @@ use Prim.Native.Nat.{ℕ, _<_, _≤_}
 use native.Mathlib.Omega.{arith}
 use lib.Dec.{eqb}
 use borrow.Author.Tests.{eq-eqb, ne-eqb}
-use Rattle.number.specs.declared.Type.{«Type» as Sort}
-use Rattle.number.specs.declared.Type.the-variants.{Proposition, Datatype}
-use Rattle.number.specs.declared.Name.{Name}
-use Rattle.number.specs.declared.Proposition.{Proposition as Number}
-use Rattle.number.specs.declared.record.Record.{Record}
-use Rattle.number.specs.Records.{recordAt}
+use Rattle.numbers.specs.declared.Sort.{Sort}
+use Rattle.numbers.specs.declared.Sort.the-variants.{Proposition, Datatype}
+use Rattle.numbers.specs.declared.Name.{Name}
+use Rattle.numbers.specs.declared.Proposition.{Proposition as Number}
+use Rattle.numbers.specs.declared.record.Record.{Record}
+use Rattle.numbers.specs.Records.{recordAt}
 use Rattle.rules.specs.Prop.{Link, Quant, Prop, const, link, quant, atom, Ty, prop, datatype, same-params, same-link, same-quant, same, same-ty, eq, alpha}
 use Rattle.layout.specs.File.{PropKind, constant, linked, quantified, atomic, strange, prop-kind}
 use Rattle.prop.specs.declared.compare.Compared.{Compared}

@@ -10,7 +10,7 @@ use lib.ListN.{length, getD, take}
 use lib.Seq.{length-take-le}
 use lib.Dec.{eqb, ltb, leb}
 use borrow.Author.Tests.{eqb-true, eq-eqb, ltb-true, ltb-false, le-ltb, leb-true}
-use Rattle.number.specs.declared.record.Record.{Record}
+use Rattle.numbers.specs.declared.record.Record.{Record}
 use Rattle.rules.specs.Prop.{Param, free, ser, bound, same-param, same-params}
 use Rattle.layout.specs.File.{PropKind, atomic, prop-kind}
 use Rattle.layout.specs.Form.{fits, prop-shape, in-prop-shape, prop-form}

@@ -8,8 +8,8 @@ use lib.Dec.{leb}
 use mir.Syntax.{w16}
 use mir.Val.{Fits}
 use borrow.Author.Tests.{leb-true, leb-false, le-leb, lt-leb}
-use Rattle.number.specs.declared.record.Record.{Record}
-use Rattle.number.specs.Records.{recordAt}
+use Rattle.numbers.specs.declared.record.Record.{Record}
+use Rattle.numbers.specs.Records.{recordAt}
 use Rattle.rules.specs.Prop.{Prop, const, link, quant, atom, size}
 use Rattle.prop.specs.declared.size.Nodes.{Nodes}
 use Rattle.prop.specs.declared.size.Nodes.the-variants.{Within, Over}

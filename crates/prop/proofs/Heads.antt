@@ -5,8 +5,8 @@ use mathlib.Core.List.{List}
 use Prim.Native.Nat.{ℕ, zero, suc, _<_}
 use native.Mathlib.Omega.{arith}
 use lib.Dec.{eqb}
-use Rattle.number.specs.declared.record.Record.{Record}
-use Rattle.number.specs.Records.{recordAt}
+use Rattle.numbers.specs.declared.record.Record.{Record}
+use Rattle.numbers.specs.Records.{recordAt}
 use Rattle.rules.specs.Prop.{Link, and, or, imp, Quant, all, ex, Origin, made, Prop, const, link, quant, atom, prop, same-link, same-quant, same}
 use Rattle.rules.specs.Step.{Arity, Prog, on-link, on-quant}
 use Rattle.layout.specs.File.{PropKind, constant, linked, quantified, atomic, strange, prop-kind, prop-kinds}

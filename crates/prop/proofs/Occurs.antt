@@ -8,8 +8,8 @@ use lib.ListN.{getD, take}
 use lib.Seq.{take-nil}
 use lib.Dec.{eqb, ltb}
 use borrow.Author.Tests.{ne-eqb, lt-ltb}
-use Rattle.number.specs.declared.record.Record.{Record}
-use Rattle.number.specs.Records.{recordAt}
+use Rattle.numbers.specs.declared.record.Record.{Record}
+use Rattle.numbers.specs.Records.{recordAt}
 use Rattle.rules.specs.Prop.{Param, Prop, const, link, quant, atom, each-param, each, other, holds}
 use Rattle.prop.specs.Room.{param, kind-0, kind-1, kind-2, kind-3, params, roomAt, Arena}
 use Rattle.prop.proofs.Views.{at-constant, at-linked, at-quantified, at-atomic}

@@ -9,10 +9,10 @@ use native.Mathlib.Omega.{arith}
 use lib.ListN.{length}
 use lib.Dec.{ltb}
 use borrow.Author.Tests.{ltb-true}
-use Rattle.number.specs.declared.Type.{«Type» as Sort}
-use Rattle.number.specs.declared.Type.the-variants.{Proposition, Datatype}
-use Rattle.number.specs.declared.record.Record.{Record}
-use Rattle.number.specs.Records.{recordAt, Put, Same}
+use Rattle.numbers.specs.declared.Sort.{Sort}
+use Rattle.numbers.specs.declared.Sort.the-variants.{Proposition, Datatype}
+use Rattle.numbers.specs.declared.record.Record.{Record}
+use Rattle.numbers.specs.Records.{recordAt, Put, Same}
 use Rattle.rules.specs.Prop.{Link, Quant, Prop, link, quant, prop}
 use Rattle.layout.specs.File.{PropKind, constant, linked, quantified, atomic, strange, prop-kind}
 use Rattle.layout.specs.Form.{prop-shape}

@@ -4,8 +4,8 @@ use mathlib.Core.Bool.{Bool, true, false}
 use mathlib.Core.List.{List}
 use Prim.Native.Nat.{ℕ, zero, suc, _<_, _≤_}
 use native.Mathlib.Omega.{arith}
-use Rattle.number.specs.declared.record.Record.{Record}
-use Rattle.number.specs.Records.{recordAt}
+use Rattle.numbers.specs.declared.record.Record.{Record}
+use Rattle.numbers.specs.Records.{recordAt}
 use Rattle.rules.specs.Prop.{Link, and, or, imp, Quant, all, ex, Prop, const, atom}
 use Rattle.layout.specs.File.{PropKind, constant, linked, quantified, atomic, prop-kind, prop-kinds}
 use Rattle.prop.specs.Room.{params, origin, node, roomAt, Arena}

@@ -2,7 +2,7 @@
 use mathlib.Core.Bool.{Bool, true, false, _&&_, cond}
 use lib.Dec.{eqb}
 use lib.ListN.{getD}
-use Rattle.number.specs.declared.record.Record.{Record}
+use Rattle.numbers.specs.declared.record.Record.{Record}
 use Rattle.rules.specs.Prop.{Prop, Ty, same, eq, alpha}
 use Rattle.prop.specs.declared.compare.Compared.{Compared}
 use Rattle.prop.specs.declared.compare.Compared.the-variants.{Equal, Alpha, Apart}

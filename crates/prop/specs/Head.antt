@@ -3,7 +3,7 @@ use mathlib.Core.Path.{_≡_}
 use mathlib.Core.Bool.{Bool, false}
 use mathlib.Core.List.{List}
 use Prim.Native.Nat.{ℕ, _<_}
-use Rattle.number.specs.Records.{recordAt}
+use Rattle.numbers.specs.Records.{recordAt}
 use Rattle.rules.specs.Prop.{Link, Quant, Prop, const, link, quant, atom, same-link, same-quant}
 use Rattle.prop.specs.declared.head.Parts.{Parts}
 use Rattle.prop.specs.declared.head.Parts.the-variants as two

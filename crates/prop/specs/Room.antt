@@ -7,10 +7,10 @@ use mathlib.Core.List.{List, [], _∷_}
 use Prim.Native.Nat.{ℕ, zero, suc, _*_, _/_, _%_, _^_, _<_, _≤_}
 use lib.ListN.{length, getD, take}
 use lib.Dec.{ltb}
-use Rattle.number.specs.declared.Type.{«Type» as Sort}
-use Rattle.number.specs.declared.Type.the-variants.{Proposition, Datatype}
-use Rattle.number.specs.declared.record.Record.{Record}
-use Rattle.number.specs.Records.{recordAt}
+use Rattle.numbers.specs.declared.Sort.{Sort}
+use Rattle.numbers.specs.declared.Sort.the-variants.{Proposition, Datatype}
+use Rattle.numbers.specs.declared.record.Record.{Record}
+use Rattle.numbers.specs.Records.{recordAt}
 use Rattle.rules.specs.Prop.{Param, free, ser, bound, Origin, table, made, Prop, const, link, quant, atom, Ty, prop, datatype}
 use Rattle.layout.specs.File.{PropKind, constant, linked, quantified, atomic, strange, prop-kind}
 use Rattle.layout.specs.Form.{prop-form}

@@ -6,9 +6,9 @@ ghost use lib.Dec.{eqb};
 ghost use Rattle.prop.specs.Room.{roomAt, typeAt, TypeIn, Arena};
 ghost use Rattle.prop.specs.Compare.{compared, both, «is-equal», «is-alpha», «same-fields», «compared-props», «compared-types»};
 use super::node::node_at;
-use number::Proposition;
-use number::Type;
-use number::record::Record;
+use numbers::Proposition;
+use numbers::Sort;
+use numbers::record::Record;
 
 pub enum Compared {
     Equal,
@@ -81,19 +81,19 @@ fn atoms(r: Record, s: Record) -> Compared
 }
 
 // The walk is over the trees, and is over at once where the two numbers are the same.
-pub fn compare(room: &[u8], count: u16, a: Proposition, b: Proposition) -> Compared
-    requires { ⌜ Arena (now room) count ⌝ }
+pub fn compare(props: &[u8], count: u16, a: Proposition, b: Proposition) -> Compared
+    requires { ⌜ Arena (now props) count ⌝ }
     requires { ⌜ a .0 < count ⌝ }
     requires { ⌜ b .0 < count ⌝ }
-    ensures { λ r. ⌜ ((tables : ℕ) → r ≡ «compared-props» (roomAt tables (now (room .entry)) (a .0)) (roomAt tables (now (room .entry)) (b .0))) ⌝ }
+    ensures { λ r. ⌜ ((tables : ℕ) → r ≡ «compared-props» (roomAt tables (now (props .entry)) (a .0)) (roomAt tables (now (props .entry)) (b .0))) ⌝ }
 {
     let x = a.0;
     let y = b.0;
     if x == y {
         return Compared::Equal;
     }
-    let r = node_at(room, count, a);
-    let s = node_at(room, count, b);
+    let r = node_at(props, count, a);
+    let s = node_at(props, count, b);
     let kind = r.kind;
     let other = s.kind;
     if kind != other {
@@ -102,13 +102,13 @@ pub fn compare(room: &[u8], count: u16, a: Proposition, b: Proposition) -> Compa
     match kind {
         0..=1 => Compared::Equal,
         2..=4 => {
-            let first = compare(room, count, Proposition(r.a), Proposition(s.a));
+            let first = compare(props, count, Proposition(r.a), Proposition(s.a));
             if let Compared::Apart = first {
                 return first;
             }
             both(
                 first,
-                compare(room, count, Proposition(r.b), Proposition(s.b)),
+                compare(props, count, Proposition(r.b), Proposition(s.b)),
             )
         }
         5..=6 => {
@@ -118,27 +118,27 @@ pub fn compare(room: &[u8], count: u16, a: Proposition, b: Proposition) -> Compa
             }
             both(
                 first,
-                compare(room, count, Proposition(r.c), Proposition(s.c)),
+                compare(props, count, Proposition(r.c), Proposition(s.c)),
             )
         }
         7..=255 => atoms(r, s),
     }
 }
 
-pub fn compare_types(room: &[u8], count: u16, s: Type, t: Type) -> Compared
-    requires { ⌜ Arena (now room) count ⌝ }
+pub fn compare_types(props: &[u8], count: u16, s: Sort, t: Sort) -> Compared
+    requires { ⌜ Arena (now props) count ⌝ }
     requires { ⌜ TypeIn count s ⌝ }
     requires { ⌜ TypeIn count t ⌝ }
-    ensures { λ r. ⌜ ((tables : ℕ) → r ≡ «compared-types» (typeAt tables (now (room .entry)) s) (typeAt tables (now (room .entry)) t)) ⌝ }
+    ensures { λ r. ⌜ ((tables : ℕ) → r ≡ «compared-types» (typeAt tables (now (props .entry)) s) (typeAt tables (now (props .entry)) t)) ⌝ }
 {
     match s {
-        Type::Proposition(a) => match t {
-            Type::Proposition(b) => compare(room, count, a, b),
-            Type::Datatype(_) => Compared::Apart,
+        Sort::Proposition(a) => match t {
+            Sort::Proposition(b) => compare(props, count, a, b),
+            Sort::Datatype(_) => Compared::Apart,
         },
-        Type::Datatype(d) => match t {
-            Type::Proposition(_) => Compared::Apart,
-            Type::Datatype(e) => {
+        Sort::Datatype(d) => match t {
+            Sort::Proposition(_) => Compared::Apart,
+            Sort::Datatype(e) => {
                 if d.0 == e.0 {
                     Compared::Equal
                 } else {

@@ -13,8 +13,8 @@ use super::node::IMPL;
 use super::node::OR;
 use super::node::TRUE;
 use super::node::node_at;
-use number::Name;
-use number::Proposition;
+use numbers::Name;
+use numbers::Proposition;
 
 pub enum Parts {
     Both(Proposition, Proposition),
@@ -27,12 +27,12 @@ pub enum Quantified {
 }
 
 // The parts, where the head is of that kind.
-fn link_parts(room: &[u8], count: u16, n: Proposition, kind: u8) -> Parts
-    requires { ⌜ Arena (now room) count ⌝ }
+fn link_parts(props: &[u8], count: u16, n: Proposition, kind: u8) -> Parts
+    requires { ⌜ Arena (now props) count ⌝ }
     requires { ⌜ n .0 < count ⌝ }
-    ensures { λ r. ⌜ ((l : Link) → «prop-kind» kind ≡ linked l → PartsIs l (now (room .entry)) (n .0) r) ⌝ }
+    ensures { λ r. ⌜ ((l : Link) → «prop-kind» kind ≡ linked l → PartsIs l (now (props .entry)) (n .0) r) ⌝ }
 {
-    let r = node_at(room, count, n);
+    let r = node_at(props, count, n);
     if r.kind == kind {
         Parts::Both(Proposition(r.a), Proposition(r.b))
     } else {
@@ -40,37 +40,37 @@ fn link_parts(room: &[u8], count: u16, n: Proposition, kind: u8) -> Parts
     }
 }
 
-pub fn and_parts(room: &[u8], count: u16, n: Proposition) -> Parts
-    requires { ⌜ Arena (now room) count ⌝ }
+pub fn and_parts(props: &[u8], count: u16, n: Proposition) -> Parts
+    requires { ⌜ Arena (now props) count ⌝ }
     requires { ⌜ n .0 < count ⌝ }
-    ensures { λ r. ⌜ PartsIs and (now (room .entry)) (n .0) r ⌝ }
+    ensures { λ r. ⌜ PartsIs and (now (props .entry)) (n .0) r ⌝ }
 {
-    link_parts(room, count, n, AND)
+    link_parts(props, count, n, AND)
 }
 
-pub fn or_parts(room: &[u8], count: u16, n: Proposition) -> Parts
-    requires { ⌜ Arena (now room) count ⌝ }
+pub fn or_parts(props: &[u8], count: u16, n: Proposition) -> Parts
+    requires { ⌜ Arena (now props) count ⌝ }
     requires { ⌜ n .0 < count ⌝ }
-    ensures { λ r. ⌜ PartsIs or (now (room .entry)) (n .0) r ⌝ }
+    ensures { λ r. ⌜ PartsIs or (now (props .entry)) (n .0) r ⌝ }
 {
-    link_parts(room, count, n, OR)
+    link_parts(props, count, n, OR)
 }
 
-pub fn impl_parts(room: &[u8], count: u16, n: Proposition) -> Parts
-    requires { ⌜ Arena (now room) count ⌝ }
+pub fn impl_parts(props: &[u8], count: u16, n: Proposition) -> Parts
+    requires { ⌜ Arena (now props) count ⌝ }
     requires { ⌜ n .0 < count ⌝ }
-    ensures { λ r. ⌜ PartsIs imp (now (room .entry)) (n .0) r ⌝ }
+    ensures { λ r. ⌜ PartsIs imp (now (props .entry)) (n .0) r ⌝ }
 {
-    link_parts(room, count, n, IMPL)
+    link_parts(props, count, n, IMPL)
 }
 
 // The datatype and the body, where the head is of that kind. (No rule asks for the object's name.)
-fn quant_parts(room: &[u8], count: u16, n: Proposition, kind: u8) -> Quantified
-    requires { ⌜ Arena (now room) count ⌝ }
+fn quant_parts(props: &[u8], count: u16, n: Proposition, kind: u8) -> Quantified
+    requires { ⌜ Arena (now props) count ⌝ }
     requires { ⌜ n .0 < count ⌝ }
-    ensures { λ r. ⌜ ((q : Quant) → «prop-kind» kind ≡ quantified q → QuantifiedIs q (now (room .entry)) (n .0) r) ⌝ }
+    ensures { λ r. ⌜ ((q : Quant) → «prop-kind» kind ≡ quantified q → QuantifiedIs q (now (props .entry)) (n .0) r) ⌝ }
 {
-    let r = node_at(room, count, n);
+    let r = node_at(props, count, n);
     if r.kind == kind {
         Quantified::Over {
             datatype: Name(r.b),
@@ -81,28 +81,28 @@ fn quant_parts(room: &[u8], count: u16, n: Proposition, kind: u8) -> Quantified
     }
 }
 
-pub fn forall_parts(room: &[u8], count: u16, n: Proposition) -> Quantified
-    requires { ⌜ Arena (now room) count ⌝ }
+pub fn forall_parts(props: &[u8], count: u16, n: Proposition) -> Quantified
+    requires { ⌜ Arena (now props) count ⌝ }
     requires { ⌜ n .0 < count ⌝ }
-    ensures { λ r. ⌜ QuantifiedIs all (now (room .entry)) (n .0) r ⌝ }
+    ensures { λ r. ⌜ QuantifiedIs all (now (props .entry)) (n .0) r ⌝ }
 {
-    quant_parts(room, count, n, FOR_ALL)
+    quant_parts(props, count, n, FOR_ALL)
 }
 
-pub fn exists_parts(room: &[u8], count: u16, n: Proposition) -> Quantified
-    requires { ⌜ Arena (now room) count ⌝ }
+pub fn exists_parts(props: &[u8], count: u16, n: Proposition) -> Quantified
+    requires { ⌜ Arena (now props) count ⌝ }
     requires { ⌜ n .0 < count ⌝ }
-    ensures { λ r. ⌜ QuantifiedIs ex (now (room .entry)) (n .0) r ⌝ }
+    ensures { λ r. ⌜ QuantifiedIs ex (now (props .entry)) (n .0) r ⌝ }
 {
-    quant_parts(room, count, n, EXISTS)
+    quant_parts(props, count, n, EXISTS)
 }
 
 // Equal to True, as Unit asks.
-pub fn is_true(room: &[u8], count: u16, n: Proposition) -> bool
-    requires { ⌜ Arena (now room) count ⌝ }
+pub fn is_true(props: &[u8], count: u16, n: Proposition) -> bool
+    requires { ⌜ Arena (now props) count ⌝ }
     requires { ⌜ n .0 < count ⌝ }
-    ensures { λ r. ⌜ ((tables : ℕ) → r ≡ same true (roomAt tables (now (room .entry)) (n .0)) (const made true)) ⌝ }
+    ensures { λ r. ⌜ ((tables : ℕ) → r ≡ same true (roomAt tables (now (props .entry)) (n .0)) (const made true)) ⌝ }
 {
-    let r = node_at(room, count, n);
+    let r = node_at(props, count, n);
     r.kind == TRUE
 }

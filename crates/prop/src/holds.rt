@@ -6,9 +6,9 @@ ghost use lib.Dec.{eqb};
 ghost use Rattle.rules.specs.Prop.{other, «each-param», holds};
 ghost use Rattle.prop.specs.Room.{params, roomAt, Arena};
 use super::node::node_at;
-use number::Proposition;
-use number::Serial;
-use number::record::Record;
+use numbers::Proposition;
+use numbers::Serial;
+use numbers::record::Record;
 
 // A parameter of that kind and number is the identifier s.
 fn is_identifier(kind: u16, x: u16, s: Serial) -> bool
@@ -29,23 +29,23 @@ fn atom_holds(r: Record, s: Serial) -> bool
 }
 
 // The walk is over the tree: a shared node is visited at each of its places.
-pub fn holds(room: &[u8], count: u16, n: Proposition, s: Serial) -> bool
-    requires { ⌜ Arena (now room) count ⌝ }
+pub fn holds(props: &[u8], count: u16, n: Proposition, s: Serial) -> bool
+    requires { ⌜ Arena (now props) count ⌝ }
     requires { ⌜ n .0 < count ⌝ }
-    ensures { λ r. ⌜ ((tables : ℕ) → r ≡ holds (s .0) (roomAt tables (now (room .entry)) (n .0))) ⌝ }
+    ensures { λ r. ⌜ ((tables : ℕ) → r ≡ holds (s .0) (roomAt tables (now (props .entry)) (n .0))) ⌝ }
 {
-    let r = node_at(room, count, n);
+    let r = node_at(props, count, n);
     let kind = r.kind;
     match kind {
         0..=1 => false,
         2..=4 => {
-            if holds(room, count, Proposition(r.a), s) {
+            if holds(props, count, Proposition(r.a), s) {
                 true
             } else {
-                holds(room, count, Proposition(r.b), s)
+                holds(props, count, Proposition(r.b), s)
             }
         }
-        5..=6 => holds(room, count, Proposition(r.c), s),
+        5..=6 => holds(props, count, Proposition(r.c), s),
         7..=255 => atom_holds(r, s),
     }
 }

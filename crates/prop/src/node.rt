@@ -1,11 +1,11 @@
 // A record of the propositions room, and the kinds that the rules ask for.
 ghost use mathlib.Core.Path.{_≡_};
 ghost use Prim.Native.Nat.{_<_};
-ghost use Rattle.number.specs.Records.{recordAt};
+ghost use Rattle.numbers.specs.Records.{recordAt};
 ghost use Rattle.prop.specs.Room.{Arena};
-use number::Proposition;
-use number::record::Record;
-use number::record::record_at;
+use numbers::Proposition;
+use numbers::record::Record;
+use numbers::record::record_at;
 
 pub const TRUE: u8 = 0;
 
@@ -22,11 +22,11 @@ pub const FOR_ALL: u8 = 5;
 pub const EXISTS: u8 = 6;
 
 // The record of proposition n, one of the first `count`.
-pub fn node_at(room: &[u8], count: u16, n: Proposition) -> Record
-    requires { ⌜ Arena (now room) count ⌝ }
+pub fn node_at(props: &[u8], count: u16, n: Proposition) -> Record
+    requires { ⌜ Arena (now props) count ⌝ }
     requires { ⌜ n .0 < count ⌝ }
-    ensures { λ r. ⌜ r ≡ recordAt (now (room .entry)) (n .0) ⌝ }
+    ensures { λ r. ⌜ r ≡ recordAt (now (props .entry)) (n .0) ⌝ }
 {
     let i = n.0 as usize;
-    record_at(room, i)
+    record_at(props, i)
 }

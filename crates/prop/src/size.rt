@@ -5,7 +5,7 @@ ghost use Rattle.rules.specs.Prop.{size};
 ghost use Rattle.prop.specs.Room.{roomAt, Arena};
 ghost use Rattle.prop.specs.Size.{counted};
 use super::node::node_at;
-use number::Proposition;
+use numbers::Proposition;
 
 pub enum Nodes {
     Within(u16),
@@ -14,28 +14,28 @@ pub enum Nodes {
 
 // The nodes of proposition n, if there are at most `left`. Made nodes are shared, so a tree's size may pass any 16-bit number: past the budget
 // nothing is counted, and no more than `left` nodes are visited.
-pub fn nodes_of(room: &[u8], count: u16, n: Proposition, left: u16) -> Nodes
-    requires { ⌜ Arena (now room) count ⌝ }
+pub fn nodes_of(props: &[u8], count: u16, n: Proposition, left: u16) -> Nodes
+    requires { ⌜ Arena (now props) count ⌝ }
     requires { ⌜ n .0 < count ⌝ }
-    ensures { λ r. ⌜ ((tables : ℕ) → r ≡ counted (size (roomAt tables (now (room .entry)) (n .0))) left) ⌝ }
+    ensures { λ r. ⌜ ((tables : ℕ) → r ≡ counted (size (roomAt tables (now (props .entry)) (n .0))) left) ⌝ }
 {
     if left == 0 {
         return Nodes::Over;
     }
-    let r = node_at(room, count, n);
+    let r = node_at(props, count, n);
     let kind = r.kind;
     match kind {
         2..=4 => {
-            let Nodes::Within(a) = nodes_of(room, count, Proposition(r.a), left - 1) else {
+            let Nodes::Within(a) = nodes_of(props, count, Proposition(r.a), left - 1) else {
                 return Nodes::Over;
             };
-            let Nodes::Within(b) = nodes_of(room, count, Proposition(r.b), left - 1 - a) else {
+            let Nodes::Within(b) = nodes_of(props, count, Proposition(r.b), left - 1 - a) else {
                 return Nodes::Over;
             };
             Nodes::Within(1 + a + b)
         }
         5..=6 => {
-            let Nodes::Within(a) = nodes_of(room, count, Proposition(r.c), left - 1) else {
+            let Nodes::Within(a) = nodes_of(props, count, Proposition(r.c), left - 1) else {
                 return Nodes::Over;
             };
             Nodes::Within(1 + a)

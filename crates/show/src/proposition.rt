@@ -2,8 +2,8 @@
 // A name is n and its number; a parameter is f and its name, s and a serial, or b and the quantifiers between the atom and its own.
 use super::index;
 use super::text;
-use number::record::Record;
-use number::record::record_at;
+use numbers::record::Record;
+use numbers::record::record_at;
 
 fn name(n: u16) {
     text(b" n");

@@ -4,10 +4,10 @@ use super::index;
 use super::proposition::proposition;
 use super::spaced;
 use super::text;
-use number::Serial;
-use number::record::Record;
-use number::record::record_at;
-use number::record::word;
+use numbers::Serial;
+use numbers::record::Record;
+use numbers::record::record_at;
+use numbers::record::word;
 
 fn serial(n: u16) {
     if n == Serial::NONE.0 {
@@ -18,10 +18,10 @@ fn serial(n: u16) {
 }
 
 // What a record concludes: a proposition, or that its identifier is of a datatype.
-fn conclusion(propositions: &[u8], r: Record) {
+fn conclusion(props: &[u8], r: Record) {
     text(b" | ");
     if r.count == 0 {
-        proposition(propositions, r.b);
+        proposition(props, r.b);
     } else {
         text(b"s");
         super::number(r.c as u64);
@@ -40,28 +40,28 @@ fn record(r: Record) {
 }
 
 // Record i of the tree, if the room reaches so far.
-fn node(tree: &[u8], propositions: &[u8], i: u16, whole: bool) {
+fn node(tree: &[u8], props: &[u8], i: u16, whole: bool) {
     let n = index(i);
     if 16 * n + 16 <= tree.len() {
         let r = record_at(tree, n);
         record(r);
         if whole {
-            conclusion(propositions, r);
+            conclusion(props, r);
         }
         text(b"\n");
     }
 }
 
-fn nodes(tree: &[u8], propositions: &[u8], count: u16, whole: bool) {
+fn nodes(tree: &[u8], props: &[u8], count: u16, whole: bool) {
     let mut i = 0;
     while i < count {
-        node(tree, propositions, i, whole);
+        node(tree, props, i, whole);
         i += 1;
     }
 }
 
 // Goal i, if the room reaches so far: term and context length.
-fn goal(goals: &[u8], propositions: &[u8], i: u16, whole: bool) {
+fn goal(goals: &[u8], props: &[u8], i: u16, whole: bool) {
     let n = index(i);
     if 8 * n + 8 <= goals.len() {
         text(b"goal");
@@ -69,44 +69,44 @@ fn goal(goals: &[u8], propositions: &[u8], i: u16, whole: bool) {
         spaced(word(goals, 8 * n + 4));
         if whole {
             text(b" | ");
-            proposition(propositions, word(goals, 8 * n + 2));
+            proposition(props, word(goals, 8 * n + 2));
         }
         text(b"\n");
     }
 }
 
-fn holes(goals: &[u8], propositions: &[u8], count: u16, whole: bool) {
+fn holes(goals: &[u8], props: &[u8], count: u16, whole: bool) {
     let mut i = 0;
     while i < count {
-        goal(goals, propositions, i, whole);
+        goal(goals, props, i, whole);
         i += 1;
     }
 }
 
 // All lines but for the last of the whole form. `records` and `open` count the tree's records and the goals.
-fn lines(tree: &[u8], goals: &[u8], propositions: &[u8], records: u16, open: u16, whole: bool) {
+fn lines(tree: &[u8], goals: &[u8], props: &[u8], records: u16, open: u16, whole: bool) {
     text(b"accepted");
     spaced(records);
     spaced(open);
     text(b"\n");
-    nodes(tree, propositions, records, whole);
-    holes(goals, propositions, open, whole);
+    nodes(tree, props, records, whole);
+    holes(goals, props, open, whole);
 }
 
-pub fn short(tree: &[u8], goals: &[u8], propositions: &[u8], records: u16, open: u16) {
-    lines(tree, goals, propositions, records, open, false);
+pub fn short(tree: &[u8], goals: &[u8], props: &[u8], records: u16, open: u16) {
+    lines(tree, goals, props, records, open, false);
 }
 
 pub fn whole(
     tree: &[u8],
     goals: &[u8],
-    propositions: &[u8],
+    props: &[u8],
     records: u16,
     open: u16,
     serials: u16,
     made: u16,
 ) {
-    lines(tree, goals, propositions, records, open, true);
+    lines(tree, goals, props, records, open, true);
     text(b"counts serials");
     spaced(serials);
     text(b" made");

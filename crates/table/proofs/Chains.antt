@@ -11,10 +11,10 @@ use native.Mathlib.Omega.{arith}
 use lib.ListN.{length, getD, take}
 use lib.Dec.{eqb, ltb}
 use borrow.Author.Tests.{eq-eqb, ne-eqb, eqb-true, eqb-false, lt-ltb, ltb-true}
-use Rattle.number.specs.declared.record.Record.{Record}
-use Rattle.number.specs.Limits.{none}
-use Rattle.number.specs.Records.{wordAt, putWord}
-use Rattle.number.proofs.Records.{length-word, word-far, word-same}
+use Rattle.numbers.specs.declared.record.Record.{Record}
+use Rattle.numbers.specs.Limits.{none}
+use Rattle.numbers.specs.Records.{wordAt, putWord}
+use Rattle.numbers.proofs.Records.{length-word, word-far, word-same}
 use Rattle.rules.specs.Prop.{Param, free, bound, each-param, named-not, closed}
 use Rattle.table.specs.declared.Purpose.{Purpose}
 use Rattle.table.specs.declared.Purpose.the-variants.{Check, Filling}

@@ -8,10 +8,10 @@ use lib.ListN.{getD}
 use native.Mathlib.Omega.{arith}
 use borrow.Author.Tests.{eqb-true, eq-eqb, ne-eqb, eqb-false, lt-ltb}
 use lib.Dec.{eqb, ltb}
-use Rattle.number.specs.declared.record.Record.{Record}
+use Rattle.numbers.specs.declared.record.Record.{Record}
 use Rattle.layout.specs.declared.record.TermRecord.{TermRecord}
 use Rattle.table.specs.declared.Purpose.{Purpose}
-use Rattle.number.specs.Records.{recordAt}
+use Rattle.numbers.specs.Records.{recordAt}
 use Rattle.table.specs.declared.Guilty.{Guilty}
 use Rattle.table.specs.declared.Guilty.the-variants.{At}
 use Rattle.layout.specs.File.{props, terms, asTerm, termRecord}

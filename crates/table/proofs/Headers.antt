@@ -7,8 +7,8 @@ use borrow.Author.Tests.{leb-true, eqb-true}
 use native.Mathlib.Omega.{arith}
 use lib.ListN.{length}
 use lib.Dec.{leb, eqb}
-use Rattle.number.specs.Limits.{most-propositions, most-terms}
-use Rattle.number.specs.Records.{wordAt}
+use Rattle.numbers.specs.Limits.{most-propositions, most-terms}
+use Rattle.numbers.specs.Records.{wordAt}
 use Rattle.layout.specs.File.{props, terms}
 use Rattle.table.specs.Tests.{mark, blank, header, counts, AtMost}
 use Rattle.table.specs.Passing.{Counted}

@@ -11,8 +11,8 @@ use borrow.Author.Tests.{lt-ltb, le-ltb}
 use lib.ListN.{length, getD, set, length-set}
 use lib.Seq.{getD-set-same, getD-set-other}
 use lib.Dec.{ltb}
-use Rattle.number.specs.declared.record.Record.{Record}
-use Rattle.number.specs.Limits.{most-height, most-depth}
+use Rattle.numbers.specs.declared.record.Record.{Record}
+use Rattle.numbers.specs.Limits.{most-height, most-depth}
 use Rattle.layout.specs.declared.form.PropShape.{PropShape}
 use Rattle.layout.specs.declared.form.TermShape.{TermShape}
 use Rattle.layout.specs.declared.record.TermRecord.{TermRecord}

@@ -9,8 +9,8 @@ use native.Mathlib.Omega.{arith}
 use lib.ListN.{length, take}
 use lib.Dec.{T, eqb, lt→ltb}
 use borrow.Author.Tests.{ltb-false, not-false}
-use Rattle.number.specs.Limits.{most-height, most-depth}
-use Rattle.number.specs.declared.record.Record.{Record}
+use Rattle.numbers.specs.Limits.{most-height, most-depth}
+use Rattle.numbers.specs.declared.record.Record.{Record}
 use Rattle.rules.specs.Prop.{bound, Prop, Ty, prop, datatype, each-param, each, older, older-ty, closed}
 use Rattle.rules.specs.Term.{Single, Term, leaf, single, double, triple, sorry, Annotation, Annotations}
 use Rattle.rules.specs.Meaning.{Structure, Env, Holds, Proper, within, scoped, scoped-ctx}

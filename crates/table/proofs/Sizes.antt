@@ -6,7 +6,7 @@ use mathlib.Core.List.{List, map}
 use Prim.Native.Nat.{ℕ, suc, _<_, _≤_, max}
 use lib.ListN.{take}
 use native.Mathlib.Omega.{arith}
-use Rattle.number.specs.declared.record.Record.{Record}
+use Rattle.numbers.specs.declared.record.Record.{Record}
 use Rattle.rules.specs.Prop.{Param, Prop, const, link, quant, atom, each-param, each, named-not, closed}
 use Rattle.table.specs.declared.Purpose.{Purpose}
 use Rattle.layout.specs.File.{props, terms, propRecord, termRecord, PropKind, constant, linked, quantified, atomic, strange, prop-kind}

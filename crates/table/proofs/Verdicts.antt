@@ -7,7 +7,7 @@ use native.Mathlib.Omega.{arith}
 use borrow.Author.Tests.{le-leb, lt-leb}
 use lib.ListN.{length, drop, replicate, length-append, length-drop}
 use lib.Seq.{drop-at}
-use Rattle.number.specs.Rooms.{cleared}
+use Rattle.numbers.specs.Rooms.{cleared}
 use Rattle.table.specs.declared.Verdict.{Verdict}
 use Rattle.table.specs.declared.Purpose.{Purpose}
 use Rattle.table.specs.declared.Guilty.the-variants.{At, Nobody}

@@ -4,8 +4,8 @@ use mathlib.Core.Bool.{Bool, true, false, _&&_, _||_, not, cond}
 use mathlib.Core.List.{List, [], _∷_}
 use Prim.Native.Nat.{ℕ, zero, suc, _+_}
 use lib.Dec.{eqb, ltb}
-use Rattle.number.specs.declared.record.Record.{Record}
-use Rattle.number.specs.Limits.{none}
+use Rattle.numbers.specs.declared.record.Record.{Record}
+use Rattle.numbers.specs.Limits.{none}
 use Rattle.layout.specs.declared.record.TermRecord.{TermRecord}
 use Rattle.table.specs.declared.Purpose.{Purpose}
 use Rattle.table.specs.declared.Purpose.the-variants.{Check, Filling}

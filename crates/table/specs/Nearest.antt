@@ -6,9 +6,9 @@ use mathlib.Core.List.{List}
 use Prim.Native.Nat.{ℕ, zero, suc, _+_, _*_, _<_}
 use lib.ListN.{length}
 use lib.Dec.{eqb}
-use Rattle.number.specs.declared.record.Record.{Record}
-use Rattle.number.specs.Limits.{none}
-use Rattle.number.specs.Records.{wordAt}
+use Rattle.numbers.specs.declared.record.Record.{Record}
+use Rattle.numbers.specs.Limits.{none}
+use Rattle.numbers.specs.Records.{wordAt}
 use Rattle.rules.specs.Prop.{Param, free, bound}
 use Rattle.table.specs.declared.Guilty.{Guilty}
 use Rattle.table.specs.declared.Guilty.the-variants.{At, Nobody}

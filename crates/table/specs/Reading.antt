@@ -6,7 +6,7 @@ use mathlib.Core.Option.{Option, none, some}
 use Prim.Native.Nat.{ℕ, zero, suc, _+_}
 use lib.ListN.{take}
 use lib.Dec.{eqb, ltb}
-use Rattle.number.specs.declared.record.Record.{Record}
+use Rattle.numbers.specs.declared.record.Record.{Record}
 use Rattle.rules.specs.Prop.{Param, free, bound, Prop, const, link, quant, atom, table, Ty, prop, datatype}
 use Rattle.rules.specs.Term.{Leaf, Single, Double, Triple, Term, leaf, single, double, triple, sorry}
 use Rattle.table.specs.declared.Guilty.{Guilty}

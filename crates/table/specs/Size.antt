@@ -4,7 +4,7 @@ use mathlib.Core.Bool.{Bool, cond}
 use mathlib.Core.List.{List}
 use Prim.Native.Nat.{ℕ, zero, suc, max}
 use lib.Dec.{eqb, ltb}
-use Rattle.number.specs.Limits.{most-height, most-depth}
+use Rattle.numbers.specs.Limits.{most-height, most-depth}
 use Rattle.rules.specs.Prop.{Prop, const, link, quant, atom}
 use Rattle.table.specs.declared.Guilty.{Guilty}
 use Rattle.table.specs.declared.Guilty.the-variants.{At, Nobody}

@@ -4,7 +4,7 @@ use mathlib.Core.Path.{_≡_}
 use mathlib.Core.List.{List}
 use Prim.Native.Nat.{ℕ, zero, suc, _<_, max}
 use lib.ListN.{length, getD}
-use Rattle.number.specs.declared.record.Record.{Record}
+use Rattle.numbers.specs.declared.record.Record.{Record}
 use Rattle.layout.specs.File.{prop-kind}
 use Rattle.layout.specs.Form.{prop-shape}
 use Rattle.table.specs.Links.{prop-links, hits}

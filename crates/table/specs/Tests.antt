@@ -6,9 +6,9 @@ use mathlib.Core.List.{List}
 use Prim.Native.Nat.{ℕ, _+_, _*_, _≤_}
 use lib.ListN.{length, getD}
 use lib.Dec.{eqb, leb, ltb}
-use Rattle.number.specs.Records.{wordAt}
-use Rattle.number.specs.Rooms.{cleared}
-use Rattle.number.specs.Limits.{most-propositions, most-terms}
+use Rattle.numbers.specs.Records.{wordAt}
+use Rattle.numbers.specs.Rooms.{cleared}
+use Rattle.numbers.specs.Limits.{most-propositions, most-terms}
 use Rattle.rules.specs.Prop.{closed}
 use Rattle.table.specs.declared.Purpose.{Purpose}
 use Rattle.table.specs.declared.Purpose.the-variants.{Check, Filling}

@@ -11,11 +11,11 @@ ghost use Rattle.table.specs.Passing.{Counted, WellLinked};
 use layout::form::prop_shape;
 use layout::header::proposition_count;
 use layout::record::proposition_at;
-use number::Name;
-use number::Proposition;
-use number::record::Record;
-use number::record::put_word;
-use number::record::word;
+use numbers::Name;
+use numbers::Proposition;
+use numbers::record::Record;
+use numbers::record::put_word;
+use numbers::record::word;
 
 // What a name in the file is: free, or bound with so many quantifiers between it and its own.
 pub enum Settled {

@@ -18,9 +18,9 @@ use super::above::settle;
 use layout::form::prop_shape;
 use layout::header::expected_field;
 use layout::record::proposition_at;
-use number::Name;
-use number::Proposition;
-use number::record::Record;
+use numbers::Name;
+use numbers::Proposition;
+use numbers::record::Record;
 
 // A parameter of record n, if it is used, is bound.
 fn is_bound(file: &[u8], work: &[u8], n: Proposition, used: bool, x: u16) -> bool

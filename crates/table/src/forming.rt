@@ -3,7 +3,7 @@ ghost use mathlib.Core.Path.{_≡_};
 ghost use mathlib.Core.Bool.{not};
 ghost use Prim.Native.Nat.{ℕ, _+_, _*_, _≤_};
 ghost use lib.ListN.{length};
-ghost use Rattle.number.specs.Limits.{«most-propositions», «most-terms»};
+ghost use Rattle.numbers.specs.Limits.{«most-propositions», «most-terms»};
 ghost use Rattle.layout.specs.File.{props, propRecord, termRecord};
 ghost use Rattle.layout.specs.Form.{fits, «prop-form», «term-form»};
 ghost use Rattle.table.specs.Reading.{first};
@@ -17,9 +17,9 @@ use layout::header::term_count;
 use layout::record::TermRecord;
 use layout::record::proposition_at;
 use layout::record::term_at;
-use number::Proposition;
-use number::Term;
-use number::record::Record;
+use numbers::Proposition;
+use numbers::Term;
+use numbers::record::Record;
 
 // A field that is not used is zero.
 fn fits(used: bool, x: u16) -> bool

@@ -13,7 +13,7 @@ mod naming;
 pub mod opening;
 pub mod size;
 
-use number::Proposition;
+use numbers::Proposition;
 
 // What a table is for: document 01's two entries.
 pub enum Purpose {
@@ -71,10 +71,10 @@ pub fn test_table(file: &[u8], work: &mut [u8], purpose: Purpose) -> Verdict
     ensures { λ r. ⌜ Tested purpose (now (file .entry)) (now (work .entry)) (now (work .exit)) r ⌝ }
 {
     if work.len() < ROOM {
-        number::room::clear(work, ROOM);
+        numbers::room::clear(work, ROOM);
         return Verdict::Refused(1, 0);
     }
     let answer = run_tests(file, &mut work[..ROOM], purpose);
-    number::room::clear(work, ROOM);
+    numbers::room::clear(work, ROOM);
     answer
 }

@@ -20,9 +20,9 @@ use layout::header::term_count;
 use layout::record::TermRecord;
 use layout::record::proposition_at;
 use layout::record::term_at;
-use number::Proposition;
-use number::Term;
-use number::record::Record;
+use numbers::Proposition;
+use numbers::Term;
+use numbers::record::Record;
 
 // Children have smaller numbers.
 fn prop_links_ok(r: Record, n: u16) -> bool

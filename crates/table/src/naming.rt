@@ -3,7 +3,7 @@
 ghost use mathlib.Core.Path.{_≡_};
 ghost use Prim.Native.Nat.{ℕ, _+_, _*_, _<_, _≤_, min};
 ghost use lib.ListN.{length, getD, set};
-ghost use Rattle.number.specs.Limits.{«most-propositions»};
+ghost use Rattle.numbers.specs.Limits.{«most-propositions»};
 ghost use Rattle.table.specs.Tests.{«test-room»};
 ghost use Rattle.layout.specs.File.{props, terms, propRecord, termRecord};
 ghost use Rattle.table.specs.Links.{hits, sum, annotation, «prop-links», «term-links»};
@@ -18,10 +18,10 @@ use layout::header::term_count;
 use layout::record::TermRecord;
 use layout::record::proposition_at;
 use layout::record::term_at;
-use number::Proposition;
-use number::Term;
-use number::record::Record;
-use number::room::fill_zero;
+use numbers::Proposition;
+use numbers::Term;
+use numbers::record::Record;
+use numbers::room::fill_zero;
 
 // One name more: more than one is all the same.
 fn note(work: &mut [u8], i: usize)

@@ -8,9 +8,9 @@ use super::Purpose;
 use layout::header::expected_field;
 use layout::header::proposition_count;
 use layout::header::term_count;
-use number::Proposition;
-use number::Term;
-use number::record::word;
+use numbers::Proposition;
+use numbers::Term;
+use numbers::record::word;
 
 fn has_mark(file: &[u8]) -> bool
     requires { ⌜ 16 ≤ length (now file) ⌝ }

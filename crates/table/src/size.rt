@@ -19,9 +19,9 @@ use layout::header::term_count;
 use layout::record::TermRecord;
 use layout::record::proposition_at;
 use layout::record::term_at;
-use number::Proposition;
-use number::Term;
-use number::record::Record;
+use numbers::Proposition;
+use numbers::Term;
+use numbers::record::Record;
 
 // The height of record r over its children's heights.
 fn height_of(work: &[u8], r: Record) -> u8

@@ -14,20 +14,12 @@ use show::input::read_table;
 fn answer(file: &[u8]) {
     let mut tree = [0u8; TREE];
     let mut goals = [0u8; GOALS];
-    let mut propositions = [0u8; PROPOSITIONS];
+    let mut props = [0u8; PROPOSITIONS];
     let mut work = [0u8; WORK];
-    match check(file, &mut tree, &mut goals, &mut propositions, &mut work) {
+    match check(file, &mut tree, &mut goals, &mut props, &mut work) {
         Mark::Refused(n, place) => show::refused(n, place),
         Mark::Accepted(c) => {
-            show::tree::whole(
-                &tree,
-                &goals,
-                &propositions,
-                c.records,
-                c.goals,
-                c.serials,
-                c.made,
-            );
+            show::tree::whole(&tree, &goals, &props, c.records, c.goals, c.serials, c.made);
         }
     }
 }

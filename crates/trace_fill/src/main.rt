@@ -25,7 +25,7 @@ fn refused(n: u8, place: u16, which: Which) {
 fn answer(old: &[u8], goal: u16, filling: &[u8]) {
     let mut tree = [0u8; TREE];
     let mut goals = [0u8; GOALS];
-    let mut propositions = [0u8; PROPOSITIONS];
+    let mut props = [0u8; PROPOSITIONS];
     let mut work = [0u8; WORK];
     let mut edited = [0u8; EDITED];
     match fill(
@@ -34,21 +34,13 @@ fn answer(old: &[u8], goal: u16, filling: &[u8]) {
         filling,
         &mut tree,
         &mut goals,
-        &mut propositions,
+        &mut props,
         &mut work,
         &mut edited,
     ) {
         Filled::Refused(n, place, which) => refused(n, place, which),
         Filled::Accepted(c) => {
-            show::tree::whole(
-                &tree,
-                &goals,
-                &propositions,
-                c.records,
-                c.goals,
-                c.serials,
-                c.made,
-            );
+            show::tree::whole(&tree, &goals, &props, c.records, c.goals, c.serials, c.made);
         }
     }
 }

@@ -1,7 +1,7 @@
 use mathlib.Core.Path.{sym}
 use lib.Seq.{length-take-le}
 use Rattle.rules.specs.State.{limit}
-use Rattle.marking.specs.Rooms.{rooms}
+use Rattle.step.specs.Rooms.{rooms}
 use Rattle.entry.proofs.Marks.{tree-long, goals-long, props-long, work-long, long-true, long-false, firsts-exact, marks-long, marks-short}
 use borrow.Author.Needs.{needs}
 use Rattle.entry.proofs.check.Statement.{statement}
@@ -28,7 +28,7 @@ slice-relend-prefix-check-table-3 c = search props-long
 
 slice-aggregate-check-table-3 : tie.Need-slice-aggregate-check-table-3
 unfolding limit
-slice-aggregate-check-table-3 c = let s = c .before .before .before .before .before .before .before .before .before .before .before .before .before .before in sym (length-take-le _ (s .args .propositions .now) (search props-long))
+slice-aggregate-check-table-3 c = let s = c .before .before .before .before .before .before .before .before .before .before .before .before .before .before in sym (length-take-le _ (s .args .props .now) (search props-long))
 
 slice-relend-prefix-check-table-4 : tie.Need-slice-relend-prefix-check-table-4
 slice-relend-prefix-check-table-4 c = search work-long
@@ -40,7 +40,7 @@ check-table-requires : tie.Need-check-table-requires
 unfolding limit
 check-table-requires c κs =
     let s = c .before .before .before .before .before .before .before .before .before .before .before .before .before .before .before in
-    firsts-exact (rooms (s .args .tree .now) (s .args .goals .now) (s .args .propositions .now) (s .args .work .now)) (search long-true)
+    firsts-exact (rooms (s .args .tree .now) (s .args .goals .now) (s .args .props .now) (s .args .work .now)) (search long-true)
 
 clear-rooms-requires : tie.Need-clear-rooms-requires
 clear-rooms-requires c κs = search needs
@@ -62,7 +62,7 @@ unfolding limit
 returns c =
     let s = c .before .before .before .before .before .before .before .before .before .before .before .before .before .before .before .before .before .before .before .before .before .before .before .before in
     let done = c .before .before .before .before .before .before .before .before .check-table in
-    marks-long (s .args .file .now) _ (rooms (s .args .tree .now) (s .args .goals .now) (s .args .propositions .now) (s .args .work .now)) (rooms (done .last .1 .0) (done .last .1 .1 .0) (done .last .1 .1 .1 .0) (done .last .1 .1 .1 .1 .0)) (search long-true) (done .ensures)
+    marks-long (s .args .file .now) _ (rooms (s .args .tree .now) (s .args .goals .now) (s .args .props .now) (s .args .work .now)) (rooms (done .last .1 .0) (done .last .1 .1 .0) (done .last .1 .1 .1 .0) (done .last .1 .1 .1 .1 .0)) (search long-true) (done .ensures)
 
 same-length-5 : tie.Need-same-length-5
 same-length-5 c = search needs
@@ -79,7 +79,7 @@ same-length-8 c = search needs
 returns-2 : tie.Need-returns-2
 returns-2 c =
     let s = c .before .before .before .before .before .before .before .before .before .before .before .before .before .before .before .before .before .before .before .before .before .before .before .before in
-    marks-short (s .args .file .now) (rooms (s .args .tree .now) (s .args .goals .now) (s .args .propositions .now) (s .args .work .now)) _ (search long-false) (c .before .before .before .before .before .before .before .before .clear-rooms .ensures)
+    marks-short (s .args .file .now) (rooms (s .args .tree .now) (s .args .goals .now) (s .args .props .now) (s .args .work .now)) _ (search long-false) (c .before .before .before .before .before .before .before .before .clear-rooms .ensures)
 
 pub check-spec : {M : Type 1} → statement M
 check-spec =

@@ -1,6 +1,6 @@
 use Rattle.entry.proofs.Runs.{header-there}
 use mathlib.Core.Path.{_≡_, refl, sym, _∙_}
-use Rattle.marking.specs.Rooms.{rooms}
+use Rattle.step.specs.Rooms.{rooms}
 use Rattle.entry.proofs.Marks.{table-refused, table-good, table-marked}
 use borrow.Author.Needs.{needs}
 use Rattle.entry.proofs.check_table.Statement.{statement}
@@ -31,7 +31,7 @@ returns : tie.Need-returns
 returns c =
     let s = c .before .before .before .before .before .before .before .before .before .before .before .before .before .before .before .before .before .before .before .before .before .before .before .before .before in
     let tested = c .before .before .before .before .before .before .before .before .before .before .before .before .before .before .before .before .before .before .test-table in
-    table-refused (s .args .file .now) (rooms (s .args .tree .now) (s .args .goals .now) (s .args .propositions .now) (s .args .work .now)) _ _ _ _ _ (c .before .before .before .before .before .before .before .before .before .before .before .before .before .before .n .given .1) (s .pre) (record { tree = s .pre .tree; goals = s .pre .goals; props = s .pre .props; work = tested .kept .1 .0 ∙ s .pre .work }) (tested .ensures) (c .before .before .before .before .before .before .before .before .clear-rooms .ensures)
+    table-refused (s .args .file .now) (rooms (s .args .tree .now) (s .args .goals .now) (s .args .props .now) (s .args .work .now)) _ _ _ _ _ (c .before .before .before .before .before .before .before .before .before .before .before .before .before .before .n .given .1) (s .pre) (record { tree = s .pre .tree; goals = s .pre .goals; props = s .pre .props; work = tested .kept .1 .0 ∙ s .pre .work }) (tested .ensures) (c .before .before .before .before .before .before .before .before .clear-rooms .ensures)
 
 enum-told : tie.Need-enum-told
 enum-told c = search needs
@@ -66,7 +66,7 @@ returns-2 c =
     let s = c .before .before .before .before .before .before .before .before .before .before .before .before .before .before .before .before .before .before .before .before .before .before .before .before .before .before .before .before .before .before .before .before .before .before .before .before .before in
     let tested = c .before .before .before .before .before .before .before .before .before .before .before .before .before .before .before .before .before .before .before .before .before .before .before .before .before .before .before .before .before .before .test-table in
     let run = c .before .before .before .before .before .before .before .before .before .before .before .before .before .before .before .before .before .before .before .before .before .run in
-    table-marked (s .args .file .now) (rooms (s .args .tree .now) (s .args .goals .now) (s .args .propositions .now) (s .args .work .now)) _ _ _ (s .pre) (record { tree = run .kept .1 .0 ∙ s .pre .tree; goals = run .kept .1 .1 .0 ∙ s .pre .goals; props = run .kept .1 .1 .1 .0 ∙ s .pre .props; work = run .kept .1 .1 .1 .1 .0 ∙ tested .kept .1 .0 ∙ s .pre .work })
+    table-marked (s .args .file .now) (rooms (s .args .tree .now) (s .args .goals .now) (s .args .props .now) (s .args .work .now)) _ _ _ (s .pre) (record { tree = run .kept .1 .0 ∙ s .pre .tree; goals = run .kept .1 .1 .0 ∙ s .pre .goals; props = run .kept .1 .1 .1 .0 ∙ s .pre .props; work = run .kept .1 .1 .1 .1 .0 ∙ tested .kept .1 .0 ∙ s .pre .work })
     (table-good (s .args .file .now) _ _ _ (c .before .before .before .before .before .before .before .before .before .before .before .before .before .before .before .before .before .before .before .before .before .before .before .before .before .before .enum-told .given .1) (s .pre .work) (tested .ensures)) (c .before .before .before .before .before .before .before .before .finish .ensures)
 
 pub check-table-spec : {M : Type 1} → statement M

@@ -1,5 +1,5 @@
 use mathlib.Core.Path.{_∙_, sym, subst}
-use Rattle.marking.specs.Rooms.{rooms}
+use Rattle.step.specs.Rooms.{rooms}
 use native.Mathlib.Omega.{arith}
 use Rattle.entry.proofs.Runs.{loadable, header-there, few-props, goal-there, ready, ran}
 use borrow.Author.Needs.{needs}

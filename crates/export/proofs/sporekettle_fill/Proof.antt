@@ -10,7 +10,7 @@ use Rattle.export.proofs.sporekettle_fill.Tie as tie
 returns : tie.Need-returns
 returns c =
     let s = c .before .before .before .before .before .before .before .before .before in
-    returns-short Filled (Fills (lent (s .args .tree .now) (s .args .goals .now) (s .args .propositions .now) (s .args .work .now) (s .args .edited .now)) (lent (s .args .tree .now) (s .args .goals .now) (s .args .propositions .now) (s .args .work .now) (s .args .edited .now)) (s .args .old .now) (s .args .filling .now) (s .args .goal)) filled-record _ (s .args .answer .now) (c .if1 .taken) (refl {a = lent (s .args .tree .now) (s .args .goals .now) (s .args .propositions .now) (s .args .work .now) (s .args .edited .now)})
+    returns-short Filled (Fills (lent (s .args .tree .now) (s .args .goals .now) (s .args .props .now) (s .args .work .now) (s .args .edited .now)) (lent (s .args .tree .now) (s .args .goals .now) (s .args .props .now) (s .args .work .now) (s .args .edited .now)) (s .args .old .now) (s .args .filling .now) (s .args .goal)) filled-record _ (s .args .answer .now) (c .if1 .taken) (refl {a = lent (s .args .tree .now) (s .args .goals .now) (s .args .props .now) (s .args .work .now) (s .args .edited .now)})
 
 fill-requires : tie.Need-fill-requires
 fill-requires c κs = search needs
@@ -43,7 +43,7 @@ returns-2 : tie.Need-returns-2
 returns-2 c =
     let s = c .before .before .before .before .before .before .before .before .before .before .before .before .before .before .before .before .before .before .before .before .before .before .before .before .before .before .before .before .before .before in
     let run = c .before .before .before .before .before .before .before .before .before .before .before .before .before .before .before .fill in
-    returns-written Filled (Fills (lent (s .args .tree .now) (s .args .goals .now) (s .args .propositions .now) (s .args .work .now) (s .args .edited .now)) (lent (run .last .1 .1 .1 .0) (run .last .1 .1 .1 .1 .0) (run .last .1 .1 .1 .1 .1 .0) (run .last .1 .1 .1 .1 .1 .1 .0) (run .last .1 .1 .1 .1 .1 .1 .1 .0)) (s .args .old .now) (s .args .filling .now) (s .args .goal)) filled-record _ (s .args .answer .now) _ (run .result) _ (c .before .before .before .before .before .before .before .before .before .before .before .before .before .before .before .before .before .before .before .before .before .if1 .left) (run .ensures) (c .before .before .before .of-filled .ensures) (c .before .before .put .ensures)
+    returns-written Filled (Fills (lent (s .args .tree .now) (s .args .goals .now) (s .args .props .now) (s .args .work .now) (s .args .edited .now)) (lent (run .last .1 .1 .1 .0) (run .last .1 .1 .1 .1 .0) (run .last .1 .1 .1 .1 .1 .0) (run .last .1 .1 .1 .1 .1 .1 .0) (run .last .1 .1 .1 .1 .1 .1 .1 .0)) (s .args .old .now) (s .args .filling .now) (s .args .goal)) filled-record _ (s .args .answer .now) _ (run .result) _ (c .before .before .before .before .before .before .before .before .before .before .before .before .before .before .before .before .before .before .before .before .before .if1 .left) (run .ensures) (c .before .before .before .of-filled .ensures) (c .before .before .put .ensures)
 
 pub sporekettle-fill-spec : {M : Type 1} → statement M
 sporekettle-fill-spec =

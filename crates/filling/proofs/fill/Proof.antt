@@ -14,78 +14,78 @@ slice-relend-prefix-fill-table : tie.Need-slice-relend-prefix-fill-table
 unfolding limit
 slice-relend-prefix-fill-table c =
     let s = c .before .before .before .before .before .before .before .before .before .before .before .before .before in
-    let long = test-true (s .args .tree .now) (s .args .goals .now) (s .args .propositions .now) (s .args .work .now) (s .args .edited .now) _ (c .before .long-enough .ensures) (c .if1 .taken) in
-    all-lengths (lent (s .args .tree .now) (s .args .goals .now) (s .args .propositions .now) (s .args .work .now) (s .args .edited .now)) long .0
+    let long = test-true (s .args .tree .now) (s .args .goals .now) (s .args .props .now) (s .args .work .now) (s .args .edited .now) _ (c .before .long-enough .ensures) (c .if1 .taken) in
+    all-lengths (lent (s .args .tree .now) (s .args .goals .now) (s .args .props .now) (s .args .work .now) (s .args .edited .now)) long .0
 
 slice-aggregate-fill-table : tie.Need-slice-aggregate-fill-table
 unfolding limit
 slice-aggregate-fill-table c =
     let s = c .before .before .before .before .before .before .before .before .before .before .before .before .before .before in
-    let long = test-true (s .args .tree .now) (s .args .goals .now) (s .args .propositions .now) (s .args .work .now) (s .args .edited .now) _ (c .before .before .long-enough .ensures) (c .before .if1 .taken) in
-    sym (length-take-le _ (s .args .tree .now) (all-lengths (lent (s .args .tree .now) (s .args .goals .now) (s .args .propositions .now) (s .args .work .now) (s .args .edited .now)) long .0))
+    let long = test-true (s .args .tree .now) (s .args .goals .now) (s .args .props .now) (s .args .work .now) (s .args .edited .now) _ (c .before .before .long-enough .ensures) (c .before .if1 .taken) in
+    sym (length-take-le _ (s .args .tree .now) (all-lengths (lent (s .args .tree .now) (s .args .goals .now) (s .args .props .now) (s .args .work .now) (s .args .edited .now)) long .0))
 
 slice-relend-prefix-fill-table-2 : tie.Need-slice-relend-prefix-fill-table-2
 unfolding limit
 slice-relend-prefix-fill-table-2 c =
     let s = c .before .before .before .before .before .before .before .before .before .before .before .before .before .before in
-    let long = test-true (s .args .tree .now) (s .args .goals .now) (s .args .propositions .now) (s .args .work .now) (s .args .edited .now) _ (c .before .before .long-enough .ensures) (c .before .if1 .taken) in
-    all-lengths (lent (s .args .tree .now) (s .args .goals .now) (s .args .propositions .now) (s .args .work .now) (s .args .edited .now)) long .1
+    let long = test-true (s .args .tree .now) (s .args .goals .now) (s .args .props .now) (s .args .work .now) (s .args .edited .now) _ (c .before .before .long-enough .ensures) (c .before .if1 .taken) in
+    all-lengths (lent (s .args .tree .now) (s .args .goals .now) (s .args .props .now) (s .args .work .now) (s .args .edited .now)) long .1
 
 slice-aggregate-fill-table-2 : tie.Need-slice-aggregate-fill-table-2
 unfolding limit
 slice-aggregate-fill-table-2 c =
     let s = c .before .before .before .before .before .before .before .before .before .before .before .before .before .before .before in
-    let long = test-true (s .args .tree .now) (s .args .goals .now) (s .args .propositions .now) (s .args .work .now) (s .args .edited .now) _ (c .before .before .before .long-enough .ensures) (c .before .before .if1 .taken) in
-    sym (length-take-le _ (s .args .goals .now) (all-lengths (lent (s .args .tree .now) (s .args .goals .now) (s .args .propositions .now) (s .args .work .now) (s .args .edited .now)) long .1))
+    let long = test-true (s .args .tree .now) (s .args .goals .now) (s .args .props .now) (s .args .work .now) (s .args .edited .now) _ (c .before .before .before .long-enough .ensures) (c .before .before .if1 .taken) in
+    sym (length-take-le _ (s .args .goals .now) (all-lengths (lent (s .args .tree .now) (s .args .goals .now) (s .args .props .now) (s .args .work .now) (s .args .edited .now)) long .1))
 
 slice-relend-prefix-fill-table-3 : tie.Need-slice-relend-prefix-fill-table-3
 unfolding limit
 slice-relend-prefix-fill-table-3 c =
     let s = c .before .before .before .before .before .before .before .before .before .before .before .before .before .before .before in
-    let long = test-true (s .args .tree .now) (s .args .goals .now) (s .args .propositions .now) (s .args .work .now) (s .args .edited .now) _ (c .before .before .before .long-enough .ensures) (c .before .before .if1 .taken) in
-    all-lengths (lent (s .args .tree .now) (s .args .goals .now) (s .args .propositions .now) (s .args .work .now) (s .args .edited .now)) long .2
+    let long = test-true (s .args .tree .now) (s .args .goals .now) (s .args .props .now) (s .args .work .now) (s .args .edited .now) _ (c .before .before .before .long-enough .ensures) (c .before .before .if1 .taken) in
+    all-lengths (lent (s .args .tree .now) (s .args .goals .now) (s .args .props .now) (s .args .work .now) (s .args .edited .now)) long .2
 
 slice-aggregate-fill-table-3 : tie.Need-slice-aggregate-fill-table-3
 unfolding limit
 slice-aggregate-fill-table-3 c =
     let s = c .before .before .before .before .before .before .before .before .before .before .before .before .before .before .before .before in
-    let long = test-true (s .args .tree .now) (s .args .goals .now) (s .args .propositions .now) (s .args .work .now) (s .args .edited .now) _ (c .before .before .before .before .long-enough .ensures) (c .before .before .before .if1 .taken) in
-    sym (length-take-le _ (s .args .propositions .now) (all-lengths (lent (s .args .tree .now) (s .args .goals .now) (s .args .propositions .now) (s .args .work .now) (s .args .edited .now)) long .2))
+    let long = test-true (s .args .tree .now) (s .args .goals .now) (s .args .props .now) (s .args .work .now) (s .args .edited .now) _ (c .before .before .before .before .long-enough .ensures) (c .before .before .before .if1 .taken) in
+    sym (length-take-le _ (s .args .props .now) (all-lengths (lent (s .args .tree .now) (s .args .goals .now) (s .args .props .now) (s .args .work .now) (s .args .edited .now)) long .2))
 
 slice-relend-prefix-fill-table-4 : tie.Need-slice-relend-prefix-fill-table-4
 unfolding limit
 slice-relend-prefix-fill-table-4 c =
     let s = c .before .before .before .before .before .before .before .before .before .before .before .before .before .before .before .before in
-    let long = test-true (s .args .tree .now) (s .args .goals .now) (s .args .propositions .now) (s .args .work .now) (s .args .edited .now) _ (c .before .before .before .before .long-enough .ensures) (c .before .before .before .if1 .taken) in
-    all-lengths (lent (s .args .tree .now) (s .args .goals .now) (s .args .propositions .now) (s .args .work .now) (s .args .edited .now)) long .3
+    let long = test-true (s .args .tree .now) (s .args .goals .now) (s .args .props .now) (s .args .work .now) (s .args .edited .now) _ (c .before .before .before .before .long-enough .ensures) (c .before .before .before .if1 .taken) in
+    all-lengths (lent (s .args .tree .now) (s .args .goals .now) (s .args .props .now) (s .args .work .now) (s .args .edited .now)) long .3
 
 slice-aggregate-fill-table-4 : tie.Need-slice-aggregate-fill-table-4
 unfolding limit
 slice-aggregate-fill-table-4 c =
     let s = c .before .before .before .before .before .before .before .before .before .before .before .before .before .before .before .before .before in
-    let long = test-true (s .args .tree .now) (s .args .goals .now) (s .args .propositions .now) (s .args .work .now) (s .args .edited .now) _ (c .before .before .before .before .before .long-enough .ensures) (c .before .before .before .before .if1 .taken) in
-    sym (length-take-le _ (s .args .work .now) (all-lengths (lent (s .args .tree .now) (s .args .goals .now) (s .args .propositions .now) (s .args .work .now) (s .args .edited .now)) long .3))
+    let long = test-true (s .args .tree .now) (s .args .goals .now) (s .args .props .now) (s .args .work .now) (s .args .edited .now) _ (c .before .before .before .before .before .long-enough .ensures) (c .before .before .before .before .if1 .taken) in
+    sym (length-take-le _ (s .args .work .now) (all-lengths (lent (s .args .tree .now) (s .args .goals .now) (s .args .props .now) (s .args .work .now) (s .args .edited .now)) long .3))
 
 slice-relend-prefix-fill-table-5 : tie.Need-slice-relend-prefix-fill-table-5
 unfolding limit
 slice-relend-prefix-fill-table-5 c =
     let s = c .before .before .before .before .before .before .before .before .before .before .before .before .before .before .before .before .before in
-    let long = test-true (s .args .tree .now) (s .args .goals .now) (s .args .propositions .now) (s .args .work .now) (s .args .edited .now) _ (c .before .before .before .before .before .long-enough .ensures) (c .before .before .before .before .if1 .taken) in
-    all-lengths (lent (s .args .tree .now) (s .args .goals .now) (s .args .propositions .now) (s .args .work .now) (s .args .edited .now)) long .4
+    let long = test-true (s .args .tree .now) (s .args .goals .now) (s .args .props .now) (s .args .work .now) (s .args .edited .now) _ (c .before .before .before .before .before .long-enough .ensures) (c .before .before .before .before .if1 .taken) in
+    all-lengths (lent (s .args .tree .now) (s .args .goals .now) (s .args .props .now) (s .args .work .now) (s .args .edited .now)) long .4
 
 slice-aggregate-fill-table-5 : tie.Need-slice-aggregate-fill-table-5
 unfolding limit
 slice-aggregate-fill-table-5 c =
     let s = c .before .before .before .before .before .before .before .before .before .before .before .before .before .before .before .before .before .before in
-    let long = test-true (s .args .tree .now) (s .args .goals .now) (s .args .propositions .now) (s .args .work .now) (s .args .edited .now) _ (c .before .before .before .before .before .before .long-enough .ensures) (c .before .before .before .before .before .if1 .taken) in
-    sym (length-take-le _ (s .args .edited .now) (all-lengths (lent (s .args .tree .now) (s .args .goals .now) (s .args .propositions .now) (s .args .work .now) (s .args .edited .now)) long .4))
+    let long = test-true (s .args .tree .now) (s .args .goals .now) (s .args .props .now) (s .args .work .now) (s .args .edited .now) _ (c .before .before .before .before .before .before .long-enough .ensures) (c .before .before .before .before .before .if1 .taken) in
+    sym (length-take-le _ (s .args .edited .now) (all-lengths (lent (s .args .tree .now) (s .args .goals .now) (s .args .props .now) (s .args .work .now) (s .args .edited .now)) long .4))
 
 fill-table-requires : tie.Need-fill-table-requires
 unfolding limit
 fill-table-requires c κs =
     let s = c .before .before .before .before .before .before .before .before .before .before .before .before .before .before .before .before .before .before in
-    let long = test-true (s .args .tree .now) (s .args .goals .now) (s .args .propositions .now) (s .args .work .now) (s .args .edited .now) _ (c .before .before .before .before .before .before .long-enough .ensures) (c .before .before .before .before .before .if1 .taken) in
-    firsts-exact (lent (s .args .tree .now) (s .args .goals .now) (s .args .propositions .now) (s .args .work .now) (s .args .edited .now)) long
+    let long = test-true (s .args .tree .now) (s .args .goals .now) (s .args .props .now) (s .args .work .now) (s .args .edited .now) _ (c .before .before .before .before .before .before .long-enough .ensures) (c .before .before .before .before .before .if1 .taken) in
+    firsts-exact (lent (s .args .tree .now) (s .args .goals .now) (s .args .props .now) (s .args .work .now) (s .args .edited .now)) long
 
 refuse-requires : tie.Need-refuse-requires
 refuse-requires c κs = search needs
@@ -109,9 +109,9 @@ returns : tie.Need-returns
 unfolding limit
 returns c =
     let s = c .before .before .before .before .before .before .before .before .before .before .before .before .before .before .before .before .before .before .before .before .before .before .before .before .before .before .before .before .before in
-    let long = test-true (s .args .tree .now) (s .args .goals .now) (s .args .propositions .now) (s .args .work .now) (s .args .edited .now) _ (c .before .before .before .before .before .before .before .before .before .before .before .before .before .before .before .before .before .long-enough .ensures) (c .before .before .before .before .before .before .before .before .before .before .before .before .before .before .before .before .if1 .taken) in
+    let long = test-true (s .args .tree .now) (s .args .goals .now) (s .args .props .now) (s .args .work .now) (s .args .edited .now) _ (c .before .before .before .before .before .before .before .before .before .before .before .before .before .before .before .before .before .long-enough .ensures) (c .before .before .before .before .before .before .before .before .before .before .before .before .before .before .before .before .if1 .taken) in
     let done = c .before .before .before .before .before .before .before .before .before .before .fill-table in
-    fills-long (lent (s .args .tree .now) (s .args .goals .now) (s .args .propositions .now) (s .args .work .now) (s .args .edited .now)) long (lent (done .last .1 .1 .1 .0) (done .last .1 .1 .1 .1 .0) (done .last .1 .1 .1 .1 .1 .0) (done .last .1 .1 .1 .1 .1 .1 .0) (done .last .1 .1 .1 .1 .1 .1 .1 .0)) (s .args .old .now) (s .args .filling .now) (s .args .goal) _ (done .ensures)
+    fills-long (lent (s .args .tree .now) (s .args .goals .now) (s .args .props .now) (s .args .work .now) (s .args .edited .now)) long (lent (done .last .1 .1 .1 .0) (done .last .1 .1 .1 .1 .0) (done .last .1 .1 .1 .1 .1 .0) (done .last .1 .1 .1 .1 .1 .1 .0) (done .last .1 .1 .1 .1 .1 .1 .1 .0)) (s .args .old .now) (s .args .filling .now) (s .args .goal) _ (done .ensures)
 
 same-length-6 : tie.Need-same-length-6
 same-length-6 c = search needs
@@ -131,8 +131,8 @@ same-length-10 c = search needs
 returns-2 : tie.Need-returns-2
 returns-2 c =
     let s = c .before .before .before .before .before .before .before .before .before .before .before .before .before .before .before .before .before .before .before .before .before .before .before .before .before .before .before .before .before in
-    fills-short (lent (s .args .tree .now) (s .args .goals .now) (s .args .propositions .now) (s .args .work .now) (s .args .edited .now)) _ (s .args .old .now) (s .args .filling .now) (s .args .goal) _
-    (test-false (s .args .tree .now) (s .args .goals .now) (s .args .propositions .now) (s .args .work .now) (s .args .edited .now) _ (c .before .before .before .before .before .before .before .before .before .before .before .before .before .before .before .before .before .long-enough .ensures) (c .before .before .before .before .before .before .before .before .before .before .before .before .before .before .before .before .if1 .left)) (c .before .before .before .before .before .before .before .before .before .before .refuse .ensures)
+    fills-short (lent (s .args .tree .now) (s .args .goals .now) (s .args .props .now) (s .args .work .now) (s .args .edited .now)) _ (s .args .old .now) (s .args .filling .now) (s .args .goal) _
+    (test-false (s .args .tree .now) (s .args .goals .now) (s .args .props .now) (s .args .work .now) (s .args .edited .now) _ (c .before .before .before .before .before .before .before .before .before .before .before .before .before .before .before .before .before .long-enough .ensures) (c .before .before .before .before .before .before .before .before .before .before .before .before .before .before .before .before .if1 .left)) (c .before .before .before .before .before .before .before .before .before .before .refuse .ensures)
 
 pub fill-spec : {M : Type 1} → statement M
 fill-spec =

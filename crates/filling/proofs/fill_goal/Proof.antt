@@ -1,7 +1,7 @@
 use mathlib.Core.Path.{_∙_}
 use native.Mathlib.Omega.{arith}
 use Rattle.filling.specs.Fill.{lent}
-use Rattle.marking.specs.Rooms.{rooms}
+use Rattle.step.specs.Rooms.{rooms}
 use Rattle.filling.specs.Steps.{ExactAll}
 use Rattle.filling.proofs.Stages.{filling-refused, filling-good, goal-missing, goal-found, hole-at, hole-fillable}
 use borrow.Author.Needs.{needs}
@@ -38,9 +38,9 @@ returns c =
     let old = s .pre .0 in
     let x = s .pre .1 in
     let tested = c .before .before .before .before .before .before .before .before .before .before .before .before .before .before .before .before .before .before .before .before .before .test-table in
-    let y : ExactAll (lent (s .args .tree .now) (s .args .goals .now) (s .args .propositions .now) (tested .last .1 .0) (s .args .edited .now)) =
+    let y : ExactAll (lent (s .args .tree .now) (s .args .goals .now) (s .args .props .now) (tested .last .1 .0) (s .args .edited .now)) =
     record { rooms = record { tree = x .rooms .tree; goals = x .rooms .goals; props = x .rooms .props; work = tested .kept .1 .0 ∙ x .rooms .work }; edited = x .edited } in
-    filling-refused (s .args .old .now) (s .args .filling .now) (s .args .goal) (lent (s .args .tree .now) (s .args .goals .now) (s .args .propositions .now) (s .args .work .now) (s .args .edited .now)) _ _ x y (tested .result) _ (tested .ensures) _ _ _ (c .before .before .before .before .before .before .before .before .before .before .before .before .before .before .before .before .before .n .given .1) (c .before .before .before .before .before .before .before .before .before .before .refuse .ensures)
+    filling-refused (s .args .old .now) (s .args .filling .now) (s .args .goal) (lent (s .args .tree .now) (s .args .goals .now) (s .args .props .now) (s .args .work .now) (s .args .edited .now)) _ _ x y (tested .result) _ (tested .ensures) _ _ _ (c .before .before .before .before .before .before .before .before .before .before .before .before .before .before .before .before .before .n .given .1) (c .before .before .before .before .before .before .before .before .before .before .refuse .ensures)
 
 enum-told : tie.Need-enum-told
 enum-told c = search needs
@@ -69,9 +69,9 @@ returns-2 c =
     let old = s .pre .0 in
     let x = s .pre .1 in
     let tested = c .before .before .before .before .before .before .before .before .before .before .before .before .before .before .before .before .before .before .before .before .before .test-table in
-    let y : ExactAll (lent (s .args .tree .now) (s .args .goals .now) (s .args .propositions .now) (tested .last .1 .0) (s .args .edited .now)) =
+    let y : ExactAll (lent (s .args .tree .now) (s .args .goals .now) (s .args .props .now) (tested .last .1 .0) (s .args .edited .now)) =
     record { rooms = record { tree = x .rooms .tree; goals = x .rooms .goals; props = x .rooms .props; work = tested .kept .1 .0 ∙ x .rooms .work }; edited = x .edited } in
-    goal-missing (s .args .old .now) (s .args .filling .now) (s .args .goal) (lent (s .args .tree .now) (s .args .goals .now) (s .args .propositions .now) (s .args .work .now) (s .args .edited .now)) _ _ x y (tested .result) _ (tested .ensures) _ (c .before .before .before .before .before .before .before .before .before .before .before .before .before .before .before .before .before .enum-told .given .1) (s .args .count) old (c .before .before .before .before .before .before .before .before .before .before .before .before .before .before .before .before .if1 .taken) (c .before .before .before .before .before .before .before .before .before .before .refuse2 .ensures)
+    goal-missing (s .args .old .now) (s .args .filling .now) (s .args .goal) (lent (s .args .tree .now) (s .args .goals .now) (s .args .props .now) (s .args .work .now) (s .args .edited .now)) _ _ x y (tested .result) _ (tested .ensures) _ (c .before .before .before .before .before .before .before .before .before .before .before .before .before .before .before .before .before .enum-told .given .1) (s .args .count) old (c .before .before .before .before .before .before .before .before .before .before .before .before .before .before .before .before .if1 .taken) (c .before .before .before .before .before .before .before .before .before .before .refuse2 .ensures)
 
 mul-word : tie.Need-mul-word
 mul-word c = search needs
@@ -85,10 +85,10 @@ fill-hole-requires c κs =
     let old = s .pre .0 in
     let x = s .pre .1 in
     let tested = c .before .before .before .before .before .before .before .before .before .before .before .before .test-table in
-    let y : ExactAll (lent (s .args .tree .now) (s .args .goals .now) (s .args .propositions .now) (tested .last .1 .0) (s .args .edited .now)) =
+    let y : ExactAll (lent (s .args .tree .now) (s .args .goals .now) (s .args .props .now) (tested .last .1 .0) (s .args .edited .now)) =
     record { rooms = record { tree = x .rooms .tree; goals = x .rooms .goals; props = x .rooms .props; work = tested .kept .1 .0 ∙ x .rooms .work }; edited = x .edited } in
     let there = c .before .before .before .before .before .before .before .if1 .left in
-    let hole = hole-at (s .args .old .now) (s .args .filling .now) (rooms (s .args .tree .now) (s .args .goals .now) (s .args .propositions .now) (s .args .work .now)) (s .args .count) (s .args .goal) old (omega (arith, there)) (c .before .before .before .before .before .word .result) (c .before .before .before .before .before .word .ensures) in
+    let hole = hole-at (s .args .old .now) (s .args .filling .now) (rooms (s .args .tree .now) (s .args .goals .now) (s .args .props .now) (s .args .work .now)) (s .args .count) (s .args .goal) old (omega (arith, there)) (c .before .before .before .before .before .word .result) (c .before .before .before .before .before .word .ensures) in
     let good = filling-good (s .args .filling .now) (s .args .work .now) _ (tested .result) (x .rooms .work) (tested .ensures) (c .before .before .before .before .before .before .before .before .enum-told .given .1) in
     (hole-fillable (s .args .old .now) (s .args .filling .now) (s .args .goal) _ (old .good) good hole, (hole, y))
 
@@ -113,9 +113,9 @@ returns-3 c =
     let old = s .pre .0 in
     let x = s .pre .1 in
     let tested = c .before .before .before .before .before .before .before .before .before .before .before .before .before .before .before .before .before .before .before .before .before .before .before .test-table in
-    let y : ExactAll (lent (s .args .tree .now) (s .args .goals .now) (s .args .propositions .now) (tested .last .1 .0) (s .args .edited .now)) =
+    let y : ExactAll (lent (s .args .tree .now) (s .args .goals .now) (s .args .props .now) (tested .last .1 .0) (s .args .edited .now)) =
     record { rooms = record { tree = x .rooms .tree; goals = x .rooms .goals; props = x .rooms .props; work = tested .kept .1 .0 ∙ x .rooms .work }; edited = x .edited } in
-    goal-found (s .args .old .now) (s .args .filling .now) (s .args .goal) (lent (s .args .tree .now) (s .args .goals .now) (s .args .propositions .now) (s .args .work .now) (s .args .edited .now)) _ _ x y (tested .result) _ (tested .ensures) _ (c .before .before .before .before .before .before .before .before .before .before .before .before .before .before .before .before .before .before .before .enum-told .given .1) (s .args .count) old (omega (arith, c .before .before .before .before .before .before .before .before .before .before .before .before .before .before .before .before .before .before .if1 .left)) (c .before .before .before .before .before .before .before .before .before .before .fill-hole .ensures)
+    goal-found (s .args .old .now) (s .args .filling .now) (s .args .goal) (lent (s .args .tree .now) (s .args .goals .now) (s .args .props .now) (s .args .work .now) (s .args .edited .now)) _ _ x y (tested .result) _ (tested .ensures) _ (c .before .before .before .before .before .before .before .before .before .before .before .before .before .before .before .before .before .before .before .enum-told .given .1) (s .args .count) old (omega (arith, c .before .before .before .before .before .before .before .before .before .before .before .before .before .before .before .before .before .before .if1 .left)) (c .before .before .before .before .before .before .before .before .before .before .fill-hole .ensures)
 
 pub fill-goal-spec : {M : Type 1} → statement M
 fill-goal-spec =

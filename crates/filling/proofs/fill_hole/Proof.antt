@@ -96,12 +96,12 @@ returns c =
     let E : Edited (s .args .old .now) (s .args .filling .now) (s .args .hole .0) (take (size .result) (edit .last .1 .1 .1 .0 ++ drop (size .result) (s .args .edited .now))) =
     subst⁻¹ (Edited (s .args .old .now) (s .args .filling .now) (s .args .hole .0)) part (edit .ensures) in
     let tested = c .before .before .before .before .before .before .before .before .before .before .before .before .before .before .before .before .before .before .before .before .before .test-edited in
-    let y : ExactAll (lent (s .args .tree .now) (s .args .goals .now) (s .args .propositions .now) (tested .last .1 .0) (edit .last .1 .1 .1 .0 ++ drop (size .result) (s .args .edited .now))) =
+    let y : ExactAll (lent (s .args .tree .now) (s .args .goals .now) (s .args .props .now) (tested .last .1 .0) (edit .last .1 .1 .1 .0 ++ drop (size .result) (s .args .edited .now))) =
     record {
       rooms = record { tree = x .rooms .tree; goals = x .rooms .goals; props = x .rooms .props; work = tested .kept .1 .0 ∙ x .rooms .work };
       edited = room-long (size .result) (s .args .edited .now) (edit .last .1 .1 .1 .0) fit (edit .kept .1 .1 .1 .0) ∙ x .edited;
     } in
-    edited-refused (s .args .old .now) (s .args .filling .now) (s .args .goal) (s .args .hole .0) (s .pre .1 .0) (lent (s .args .tree .now) (s .args .goals .now) (s .args .propositions .now) (s .args .work .now) (s .args .edited .now)) _ _ x y _ bytes E (tested .result) (tested .ensures) _ _ _ (c .before .before .before .before .before .before .before .before .before .before .before .before .before .before .before .before .before .n .given .1) (c .before .before .before .before .before .before .before .before .before .before .refuse .ensures)
+    edited-refused (s .args .old .now) (s .args .filling .now) (s .args .goal) (s .args .hole .0) (s .pre .1 .0) (lent (s .args .tree .now) (s .args .goals .now) (s .args .props .now) (s .args .work .now) (s .args .edited .now)) _ _ x y _ bytes E (tested .result) (tested .ensures) _ _ _ (c .before .before .before .before .before .before .before .before .before .before .before .before .before .before .before .before .before .n .given .1) (c .before .before .before .before .before .before .before .before .before .before .refuse .ensures)
 
 enum-told : tie.Need-enum-told
 enum-told c = search needs
@@ -118,7 +118,7 @@ run-filling-requires c κs =
     let E : Edited (s .args .old .now) (s .args .filling .now) (s .args .hole .0) (take (size .result) (edit .last .1 .1 .1 .0 ++ drop (size .result) (s .args .edited .now))) =
     subst⁻¹ (Edited (s .args .old .now) (s .args .filling .now) (s .args .hole .0)) part (edit .ensures) in
     let tested = c .before .before .before .before .before .before .before .before .before .test-edited in
-    let y : ExactAll (lent (s .args .tree .now) (s .args .goals .now) (s .args .propositions .now) (tested .last .1 .0) (edit .last .1 .1 .1 .0 ++ drop (size .result) (s .args .edited .now))) =
+    let y : ExactAll (lent (s .args .tree .now) (s .args .goals .now) (s .args .props .now) (tested .last .1 .0) (edit .last .1 .1 .1 .0 ++ drop (size .result) (s .args .edited .now))) =
     record {
       rooms = record { tree = x .rooms .tree; goals = x .rooms .goals; props = x .rooms .props; work = tested .kept .1 .0 ∙ x .rooms .work };
       edited = room-long (size .result) (s .args .edited .now) (edit .last .1 .1 .1 .0) fit (edit .kept .1 .1 .1 .0) ∙ x .edited;
@@ -161,12 +161,12 @@ returns-2 c =
     let E : Edited (s .args .old .now) (s .args .filling .now) (s .args .hole .0) (take (size .result) (edit .last .1 .1 .1 .0 ++ drop (size .result) (s .args .edited .now))) =
     subst⁻¹ (Edited (s .args .old .now) (s .args .filling .now) (s .args .hole .0)) part (edit .ensures) in
     let tested = c .before .before .before .before .before .before .before .before .before .before .before .before .before .before .before .before .before .before .before .before .test-edited in
-    let y : ExactAll (lent (s .args .tree .now) (s .args .goals .now) (s .args .propositions .now) (tested .last .1 .0) (edit .last .1 .1 .1 .0 ++ drop (size .result) (s .args .edited .now))) =
+    let y : ExactAll (lent (s .args .tree .now) (s .args .goals .now) (s .args .props .now) (tested .last .1 .0) (edit .last .1 .1 .1 .0 ++ drop (size .result) (s .args .edited .now))) =
     record {
       rooms = record { tree = x .rooms .tree; goals = x .rooms .goals; props = x .rooms .props; work = tested .kept .1 .0 ∙ x .rooms .work };
       edited = room-long (size .result) (s .args .edited .now) (edit .last .1 .1 .1 .0) fit (edit .kept .1 .1 .1 .0) ∙ x .edited;
     } in
-    edited-run (s .args .old .now) (s .args .filling .now) (s .args .goal) (s .args .hole .0) (s .pre .1 .0) (lent (s .args .tree .now) (s .args .goals .now) (s .args .propositions .now) (s .args .work .now) (s .args .edited .now)) _ _ x y _ bytes E (tested .result) (tested .ensures) _ (c .before .before .before .before .before .before .before .before .before .before .before .before .before .before .before .before .enum-told .given .1)
+    edited-run (s .args .old .now) (s .args .filling .now) (s .args .goal) (s .args .hole .0) (s .pre .1 .0) (lent (s .args .tree .now) (s .args .goals .now) (s .args .props .now) (s .args .work .now) (s .args .edited .now)) _ _ x y _ bytes E (tested .result) (tested .ensures) _ (c .before .before .before .before .before .before .before .before .before .before .before .before .before .before .before .before .enum-told .given .1)
     (c .before .before .before .before .before .before .before .before .before .before .run-filling .ensures)
 
 pub fill-hole-spec : {M : Type 1} → statement M

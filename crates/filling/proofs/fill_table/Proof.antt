@@ -1,6 +1,6 @@
 use mathlib.Core.Path.{refl, _∙_}
 use Rattle.entry.specs.Mark.{table-run}
-use Rattle.marking.specs.Rooms.{rooms}
+use Rattle.step.specs.Rooms.{rooms}
 use Rattle.filling.specs.Fill.{lent}
 use Rattle.filling.specs.Steps.{ExactAll}
 use Rattle.filling.proofs.Stages.{old-refused, old-accepted, old-ran}
@@ -36,7 +36,7 @@ fill-goal-requires c κs =
           };
       edited = x .edited;
     } in
-    (old-ran (s .args .old .now) (rooms (s .args .tree .now) (s .args .goals .now) (s .args .propositions .now) (s .args .work .now)) _ (first .result) (c .before .before .before .before .before .before .c .given .0 .0) (c .before .before .before .before .before .before .c .given .1) (table-run (s .args .old .now)) refl (first .ensures), y)
+    (old-ran (s .args .old .now) (rooms (s .args .tree .now) (s .args .goals .now) (s .args .props .now) (s .args .work .now)) _ (first .result) (c .before .before .before .before .before .before .c .given .0 .0) (c .before .before .before .before .before .before .c .given .1) (table-run (s .args .old .now)) refl (first .ensures), y)
 
 same-length : tie.Need-same-length
 same-length c = search needs
@@ -69,7 +69,7 @@ returns c =
           };
       edited = x .edited;
     } in
-    old-refused (s .args .old .now) (s .args .filling .now) (s .args .goal) (lent (s .args .tree .now) (s .args .goals .now) (s .args .propositions .now) (s .args .work .now) (s .args .edited .now)) _ _ x y (first .result) _ _ _ (c .before .before .before .before .before .before .before .before .before .before .before .before .before .before .before .before .before .n .given .1) (table-run (s .args .old .now)) (first .ensures) (c .before .before .before .before .before .before .before .before .before .before .refuse .ensures)
+    old-refused (s .args .old .now) (s .args .filling .now) (s .args .goal) (lent (s .args .tree .now) (s .args .goals .now) (s .args .props .now) (s .args .work .now) (s .args .edited .now)) _ _ x y (first .result) _ _ _ (c .before .before .before .before .before .before .before .before .before .before .before .before .before .before .before .before .before .n .given .1) (table-run (s .args .old .now)) (first .ensures) (c .before .before .before .before .before .before .before .before .before .before .refuse .ensures)
 
 same-length-6 : tie.Need-same-length-6
 same-length-6 c = search needs
@@ -102,7 +102,7 @@ returns-2 c =
           };
       edited = x .edited;
     } in
-    old-accepted (s .args .old .now) (s .args .filling .now) (s .args .goal) (lent (s .args .tree .now) (s .args .goals .now) (s .args .propositions .now) (s .args .work .now) (s .args .edited .now)) _ _ x y (first .result) _ (c .before .before .before .before .before .before .before .before .before .before .before .before .before .before .before .before .before .c .given .0 .0) (c .before .before .before .before .before .before .before .before .before .before .before .before .before .before .before .before .before .c .given .1) (table-run (s .args .old .now)) refl (first .ensures) (c .before .before .before .before .before .before .before .before .before .before .fill-goal .ensures)
+    old-accepted (s .args .old .now) (s .args .filling .now) (s .args .goal) (lent (s .args .tree .now) (s .args .goals .now) (s .args .props .now) (s .args .work .now) (s .args .edited .now)) _ _ x y (first .result) _ (c .before .before .before .before .before .before .before .before .before .before .before .before .before .before .before .before .before .c .given .0 .0) (c .before .before .before .before .before .before .before .before .before .before .before .before .before .before .before .before .before .c .given .1) (table-run (s .args .old .now)) refl (first .ensures) (c .before .before .before .before .before .before .before .before .before .before .fill-goal .ensures)
 
 pub fill-table-spec : {M : Type 1} → statement M
 fill-table-spec =

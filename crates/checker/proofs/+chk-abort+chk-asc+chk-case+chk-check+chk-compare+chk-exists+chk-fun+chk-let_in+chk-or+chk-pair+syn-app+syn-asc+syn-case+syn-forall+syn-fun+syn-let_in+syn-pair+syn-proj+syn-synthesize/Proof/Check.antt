@@ -4,9 +4,9 @@ use mathlib.Core.Path.{_∙_}
 use Prim.Native.Nat.{ℕ}
 use mathlib.Core.Path.{refl}
 use native.Mathlib.Omega.{arith}
-use Rattle.marking.proofs.Bounds.{base-header, base-count, ready-inner, ready-work, ready-tree, ready-goals, ready-goal, ready-context}
-use Rattle.marking.proofs.Ranks.{rank-same}
-use Rattle.marking.proofs.Dispatch.{kind-is, kind-between, synthesizes-none, synthesizes-five, synthesizes-between, past-one, past-six, past-twelve, kind-never}
+use Rattle.step.proofs.Bounds.{base-header, base-count, ready-inner, ready-work, ready-tree, ready-goals, ready-goal, ready-context}
+use Rattle.step.proofs.Ranks.{rank-same}
+use Rattle.step.proofs.Dispatch.{kind-is, kind-between, synthesizes-none, synthesizes-five, synthesizes-between, past-one, past-six, past-twelve, kind-never}
 use Rattle.checker.proofs.+chk-abort+chk-asc+chk-case+chk-check+chk-compare+chk-exists+chk-fun+chk-let_in+chk-or+chk-pair+syn-app+syn-asc+syn-case+syn-forall+syn-fun+syn-let_in+syn-pair+syn-proj+syn-synthesize.Lts-chk-check as lts
 use Rattle.checker.proofs.chk.check.Reads as check
 use Rattle.checker.proofs.chk.abort.Reads as chk-abort
@@ -17,9 +17,9 @@ use Rattle.checker.proofs.chk.fun.Reads as chk-fun
 use Rattle.checker.proofs.chk.let_in.Reads as chk-let-in
 use Rattle.checker.proofs.chk.or.Reads as chk-or
 use Rattle.checker.proofs.chk.pair.Reads as chk-pair
-use Rattle.marking.proofs.leaf.chk_sorry.Reads as chk-sorry-reads
-use Rattle.marking.proofs.leaf.chk_unit.Reads as chk-unit-reads
-use Rattle.marking.proofs.state.term_record.Reads as term-record-reads
+use Rattle.step.proofs.leaf.chk_sorry.Reads as chk-sorry-reads
+use Rattle.step.proofs.leaf.chk_unit.Reads as chk-unit-reads
+use Rattle.step.proofs.state.term_record.Reads as term-record-reads
 use Rattle.checker.proofs.+chk-abort+chk-asc+chk-case+chk-check+chk-compare+chk-exists+chk-fun+chk-let_in+chk-or+chk-pair+syn-app+syn-asc+syn-case+syn-forall+syn-fun+syn-let_in+syn-pair+syn-proj+syn-synthesize.Proof.Measures.{check-at, chk-abort-below, chk-asc-below, chk-case-below, chk-compare-below, chk-fun-below, chk-let-in-below, chk-or-below, chk-pair-below}
 
 abbrev claims : ℕ → lts.Claims

@@ -3,18 +3,18 @@ use borrow.Author.Needs.{needs}
 use mathlib.Core.Path.{_∙_}
 use Prim.Native.Nat.{ℕ}
 use native.Mathlib.Omega.{arith}
-use Rattle.marking.proofs.Ranks.{rank-child}
-use Rattle.marking.specs.Rooms.{rooms}
-use Rattle.marking.proofs.Ascriptions.{as-given, as-place, as-resolve, chk-as-unresolved, chk-as-count, chk-as-compare, chk-as-ready, chk-as-type, chk-as-apart, chk-as-done}
+use Rattle.step.proofs.Ranks.{rank-child}
+use Rattle.step.specs.Rooms.{rooms}
+use Rattle.step.proofs.Ascriptions.{as-given, as-place, as-resolve, chk-as-unresolved, chk-as-count, chk-as-compare, chk-as-ready, chk-as-type, chk-as-apart, chk-as-done}
 use Rattle.checker.proofs.+chk-abort+chk-asc+chk-case+chk-check+chk-compare+chk-exists+chk-fun+chk-let_in+chk-or+chk-pair+syn-app+syn-asc+syn-case+syn-forall+syn-fun+syn-let_in+syn-pair+syn-proj+syn-synthesize.Lts-chk-asc as lts
-use Rattle.marking.proofs.typing.annotation_of.Reads as annotation-of-reads
+use Rattle.step.proofs.typing.annotation_of.Reads as annotation-of-reads
 use Rattle.checker.proofs.chk.check.Reads as check
 use Rattle.checker.proofs.chk.asc.Reads as chk-asc
 use Rattle.prop.proofs.compare.compare_types.Reads as compare-types-reads
-use Rattle.marking.proofs.state.count_of.Reads as count-of-reads
+use Rattle.step.proofs.state.count_of.Reads as count-of-reads
 use Rattle.prop.proofs.compare.is_alpha.Reads as is-alpha-reads
-use Rattle.marking.proofs.typing.resolve_type.Reads as resolve-type-reads
-use Rattle.marking.proofs.state.term_record.Reads as term-record-reads
+use Rattle.step.proofs.typing.resolve_type.Reads as resolve-type-reads
+use Rattle.step.proofs.state.term_record.Reads as term-record-reads
 use Rattle.checker.proofs.+chk-abort+chk-asc+chk-case+chk-check+chk-compare+chk-exists+chk-fun+chk-let_in+chk-or+chk-pair+syn-app+syn-asc+syn-case+syn-forall+syn-fun+syn-let_in+syn-pair+syn-proj+syn-synthesize.Proof.Measures.{check-below, chk-asc-at}
 
 abbrev claims : ℕ → lts.Claims

@@ -3,18 +3,18 @@ use borrow.Author.Needs.{needs}
 use mathlib.Core.Path.{_∙_}
 use Prim.Native.Nat.{ℕ}
 use native.Mathlib.Omega.{arith}
-use Rattle.marking.proofs.Bounds.{base-header, base-count}
-use Rattle.marking.proofs.Ranks.{rank-same}
-use Rattle.marking.proofs.Moves.{loaded-arena, loaded-type}
-use Rattle.marking.proofs.Comparisons.{syn-stop, syn-base, syn-type, syn-wanted, syn-apart, syn-equal, syn-order, syn-shift, syn-inner, syn-put, syn-alpha}
+use Rattle.step.proofs.Bounds.{base-header, base-count}
+use Rattle.step.proofs.Ranks.{rank-same}
+use Rattle.step.proofs.Moves.{loaded-arena, loaded-type}
+use Rattle.step.proofs.Comparisons.{syn-stop, syn-base, syn-type, syn-wanted, syn-apart, syn-equal, syn-order, syn-shift, syn-inner, syn-put, syn-alpha}
 use Rattle.checker.proofs.+chk-abort+chk-asc+chk-case+chk-check+chk-compare+chk-exists+chk-fun+chk-let_in+chk-or+chk-pair+syn-app+syn-asc+syn-case+syn-forall+syn-fun+syn-let_in+syn-pair+syn-proj+syn-synthesize.Lts-chk-compare as lts
 use Rattle.checker.proofs.chk.compare.Reads as chk-compare
 use Rattle.prop.proofs.compare.compare_types.Reads as compare-types-reads
-use Rattle.marking.proofs.state.count_of.Reads as count-of-reads
-use Rattle.marking.proofs.state.inner.Reads as inner-reads
-use Rattle.marking.proofs.node.node.Reads as node-reads
-use Rattle.marking.proofs.node.put_node.Reads as put-node-reads
-use Rattle.marking.proofs.shift.shift.Reads as shift-reads
+use Rattle.step.proofs.state.count_of.Reads as count-of-reads
+use Rattle.step.proofs.state.inner.Reads as inner-reads
+use Rattle.step.proofs.node.node.Reads as node-reads
+use Rattle.step.proofs.node.put_node.Reads as put-node-reads
+use Rattle.step.proofs.shift.shift.Reads as shift-reads
 use Rattle.checker.proofs.syn.synthesize.Reads as synthesize
 use Rattle.checker.proofs.+chk-abort+chk-asc+chk-case+chk-check+chk-compare+chk-exists+chk-fun+chk-let_in+chk-or+chk-pair+syn-app+syn-asc+syn-case+syn-forall+syn-fun+syn-let_in+syn-pair+syn-proj+syn-synthesize.Proof.Measures.{chk-compare-at, synthesize-below}
 

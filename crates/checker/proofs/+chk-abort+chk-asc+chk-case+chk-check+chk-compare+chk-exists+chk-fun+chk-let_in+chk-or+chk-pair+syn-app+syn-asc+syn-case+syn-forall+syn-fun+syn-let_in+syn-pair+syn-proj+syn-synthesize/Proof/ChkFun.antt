@@ -3,23 +3,23 @@ use borrow.Author.Needs.{needs}
 use mathlib.Core.Path.{_∙_}
 use Prim.Native.Nat.{ℕ}
 use native.Mathlib.Omega.{arith}
-use Rattle.marking.proofs.Ranks.{rank-child}
+use Rattle.step.proofs.Ranks.{rank-child}
 use mathlib.Core.Path.{refl}
-use Rattle.marking.proofs.Bounds.{ready-inner}
-use Rattle.marking.proofs.Functions.{fun-place, fun-serials, fun-fresh, chk-fun-open, chk-fun-unopened, chk-fun-agree, chk-fun-unagreed, chk-fun-enter, chk-fun-ready, chk-fun-type, chk-fun-stop, chk-fun-put, chk-fun-done}
+use Rattle.step.proofs.Bounds.{ready-inner}
+use Rattle.step.proofs.Functions.{fun-place, fun-serials, fun-fresh, chk-fun-open, chk-fun-unopened, chk-fun-agree, chk-fun-unagreed, chk-fun-enter, chk-fun-ready, chk-fun-type, chk-fun-stop, chk-fun-put, chk-fun-done}
 use Rattle.checker.proofs.+chk-abort+chk-asc+chk-case+chk-check+chk-compare+chk-exists+chk-fun+chk-let_in+chk-or+chk-pair+syn-app+syn-asc+syn-case+syn-forall+syn-fun+syn-let_in+syn-pair+syn-proj+syn-synthesize.Lts-chk-fun as lts
-use Rattle.marking.proofs.typing.agree.Reads as agree-reads
-use Rattle.marking.proofs.typing.annotation_of.Reads as annotation-of-reads
+use Rattle.step.proofs.typing.agree.Reads as agree-reads
+use Rattle.step.proofs.typing.annotation_of.Reads as annotation-of-reads
 use Rattle.checker.proofs.chk.check.Reads as check
 use Rattle.checker.proofs.chk.fun.Reads as chk-fun
-use Rattle.marking.proofs.enter.enter.Reads as enter-reads
-use Rattle.marking.proofs.state.inner.Reads as inner-reads
-use Rattle.marking.proofs.state.leave.Reads as leave-reads
-use Rattle.marking.proofs.enter.new_identifier.Reads as new-identifier-reads
-use Rattle.marking.proofs.node.node.Reads as node-reads
-use Rattle.marking.proofs.open.open_function.Reads as open-function-reads
-use Rattle.marking.proofs.node.put_node.Reads as put-node-reads
-use Rattle.marking.proofs.state.term_record.Reads as term-record-reads
+use Rattle.step.proofs.enter.enter.Reads as enter-reads
+use Rattle.step.proofs.state.inner.Reads as inner-reads
+use Rattle.step.proofs.state.leave.Reads as leave-reads
+use Rattle.step.proofs.enter.new_identifier.Reads as new-identifier-reads
+use Rattle.step.proofs.node.node.Reads as node-reads
+use Rattle.step.proofs.open.open_function.Reads as open-function-reads
+use Rattle.step.proofs.node.put_node.Reads as put-node-reads
+use Rattle.step.proofs.state.term_record.Reads as term-record-reads
 use Rattle.checker.proofs.+chk-abort+chk-asc+chk-case+chk-check+chk-compare+chk-exists+chk-fun+chk-let_in+chk-or+chk-pair+syn-app+syn-asc+syn-case+syn-forall+syn-fun+syn-let_in+syn-pair+syn-proj+syn-synthesize.Proof.Measures.{check-below, chk-fun-at}
 
 abbrev claims : ℕ → lts.Claims

@@ -2,7 +2,7 @@
 use Prim.Native.Nat.{ℕ, _<_}
 use borrow.Fn.Kinds.{In}
 use borrow.Fn.PlainCycle.{Measures, is, falls, and}
-use Rattle.marking.proofs.Ranks.{rank}
+use Rattle.step.proofs.Ranks.{rank}
 use Rattle.checker.proofs.chk.abort.Reads as chk-abort
 use Rattle.checker.proofs.chk.abort.Kinds as chk-abort-kinds
 use Rattle.checker.proofs.chk.asc.Reads as chk-asc

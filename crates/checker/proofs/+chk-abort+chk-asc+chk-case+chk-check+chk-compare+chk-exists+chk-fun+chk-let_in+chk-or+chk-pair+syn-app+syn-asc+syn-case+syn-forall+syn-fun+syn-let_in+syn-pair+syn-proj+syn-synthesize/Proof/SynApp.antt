@@ -4,21 +4,21 @@ use mathlib.Core.Path.{_∙_}
 use Prim.Native.Nat.{ℕ}
 use mathlib.Core.Path.{refl}
 use native.Mathlib.Omega.{arith}
-use Rattle.marking.proofs.Bounds.{base-header, base-count, ready-inner}
-use Rattle.marking.proofs.Ranks.{rank-child}
-use Rattle.marking.proofs.Moves.{loaded-arena, loaded-type}
-use Rattle.marking.proofs.Applications.{app-child-1, app-child-2, app-ready-1, app-stop-1, app-base, app-type, app-ready-2, app-type-2, app-stop-2, app-put, app-done, app-all-stop, app-all-put, app-all-done}
+use Rattle.step.proofs.Bounds.{base-header, base-count, ready-inner}
+use Rattle.step.proofs.Ranks.{rank-child}
+use Rattle.step.proofs.Moves.{loaded-arena, loaded-type}
+use Rattle.step.proofs.Applications.{app-child-1, app-child-2, app-ready-1, app-stop-1, app-base, app-type, app-ready-2, app-type-2, app-stop-2, app-put, app-done, app-all-stop, app-all-put, app-all-done}
 use Rattle.checker.proofs.+chk-abort+chk-asc+chk-case+chk-check+chk-compare+chk-exists+chk-fun+chk-let_in+chk-or+chk-pair+syn-app+syn-asc+syn-case+syn-forall+syn-fun+syn-let_in+syn-pair+syn-proj+syn-synthesize.Lts-syn-app as lts
 use Rattle.checker.proofs.chk.check.Reads as check
-use Rattle.marking.proofs.state.count_of.Reads as count-of-reads
-use Rattle.marking.proofs.head.impl_of.Reads as impl-of-reads
-use Rattle.marking.proofs.state.inner.Reads as inner-reads
-use Rattle.marking.proofs.node.node.Reads as node-reads
-use Rattle.marking.proofs.node.put_node.Reads as put-node-reads
+use Rattle.step.proofs.state.count_of.Reads as count-of-reads
+use Rattle.step.proofs.head.impl_of.Reads as impl-of-reads
+use Rattle.step.proofs.state.inner.Reads as inner-reads
+use Rattle.step.proofs.node.node.Reads as node-reads
+use Rattle.step.proofs.node.put_node.Reads as put-node-reads
 use Rattle.checker.proofs.syn.app.Reads as syn-app
 use Rattle.checker.proofs.syn.forall.Reads as syn-forall
 use Rattle.checker.proofs.syn.synthesize.Reads as synthesize
-use Rattle.marking.proofs.state.term_record.Reads as term-record-reads
+use Rattle.step.proofs.state.term_record.Reads as term-record-reads
 use Rattle.checker.proofs.+chk-abort+chk-asc+chk-case+chk-check+chk-compare+chk-exists+chk-fun+chk-let_in+chk-or+chk-pair+syn-app+syn-asc+syn-case+syn-forall+syn-fun+syn-let_in+syn-pair+syn-proj+syn-synthesize.Proof.Measures.{check-below, syn-app-at, syn-forall-below, synthesize-below}
 
 abbrev claims : ℕ → lts.Claims

@@ -3,14 +3,14 @@ use borrow.Author.Needs.{needs}
 use mathlib.Core.Path.{_∙_}
 use Prim.Native.Nat.{ℕ}
 use native.Mathlib.Omega.{arith}
-use Rattle.marking.proofs.Ranks.{rank-child}
-use Rattle.marking.proofs.Ascriptions.{as-given, as-place, as-resolve, syn-as-unresolved, syn-as-ready, syn-as-type, syn-as-stop, syn-as-done}
+use Rattle.step.proofs.Ranks.{rank-child}
+use Rattle.step.proofs.Ascriptions.{as-given, as-place, as-resolve, syn-as-unresolved, syn-as-ready, syn-as-type, syn-as-stop, syn-as-done}
 use Rattle.checker.proofs.+chk-abort+chk-asc+chk-case+chk-check+chk-compare+chk-exists+chk-fun+chk-let_in+chk-or+chk-pair+syn-app+syn-asc+syn-case+syn-forall+syn-fun+syn-let_in+syn-pair+syn-proj+syn-synthesize.Lts-syn-asc as lts
-use Rattle.marking.proofs.typing.annotation_of.Reads as annotation-of-reads
+use Rattle.step.proofs.typing.annotation_of.Reads as annotation-of-reads
 use Rattle.checker.proofs.chk.check.Reads as check
-use Rattle.marking.proofs.typing.resolve_type.Reads as resolve-type-reads
+use Rattle.step.proofs.typing.resolve_type.Reads as resolve-type-reads
 use Rattle.checker.proofs.syn.asc.Reads as syn-asc
-use Rattle.marking.proofs.state.term_record.Reads as term-record-reads
+use Rattle.step.proofs.state.term_record.Reads as term-record-reads
 use Rattle.checker.proofs.+chk-abort+chk-asc+chk-case+chk-check+chk-compare+chk-exists+chk-fun+chk-let_in+chk-or+chk-pair+syn-app+syn-asc+syn-case+syn-forall+syn-fun+syn-let_in+syn-pair+syn-proj+syn-synthesize.Proof.Measures.{check-below, syn-asc-at}
 
 abbrev claims : ℕ → lts.Claims

@@ -4,24 +4,24 @@ use mathlib.Core.Path.{_∙_}
 use Prim.Native.Nat.{ℕ}
 use mathlib.Core.Path.{refl}
 use native.Mathlib.Omega.{arith}
-use Rattle.marking.proofs.Ranks.{rank-child}
-use Rattle.marking.proofs.Bounds.{base-header, base-count, ready-inner}
+use Rattle.step.proofs.Ranks.{rank-child}
+use Rattle.step.proofs.Bounds.{base-header, base-count, ready-inner}
 use Rattle.rules.specs.Step.{synth}
-use Rattle.marking.proofs.Moves.{loaded-arena, loaded-type}
-use Rattle.marking.proofs.Cases.{case-child-1, case-child-2, case-child-3, case-ready-1, case-return-1, case-base-1, case-type-1, case-other, case-room-1, case-counts-1, case-ready-2, case-stop-2, case-room-2, case-counts-2, case-ready-3, case-stop-3, case-alike, case-base-2, case-type-left, case-type-right, case-apart, case-data, case-put, case-done}
+use Rattle.step.proofs.Moves.{loaded-arena, loaded-type}
+use Rattle.step.proofs.Cases.{case-child-1, case-child-2, case-child-3, case-ready-1, case-return-1, case-base-1, case-type-1, case-other, case-room-1, case-counts-1, case-ready-2, case-stop-2, case-room-2, case-counts-2, case-ready-3, case-stop-3, case-alike, case-base-2, case-type-left, case-type-right, case-apart, case-data, case-put, case-done}
 use Rattle.checker.proofs.+chk-abort+chk-asc+chk-case+chk-check+chk-compare+chk-exists+chk-fun+chk-let_in+chk-or+chk-pair+syn-app+syn-asc+syn-case+syn-forall+syn-fun+syn-let_in+syn-pair+syn-proj+syn-synthesize.Lts-syn-case as lts
 use Rattle.prop.proofs.compare.compare_types.Reads as compare-types-reads
-use Rattle.marking.proofs.state.count_of.Reads as count-of-reads
-use Rattle.marking.proofs.enter.enter_fresh.Reads as enter-fresh-reads
-use Rattle.marking.proofs.state.inner.Reads as inner-reads
+use Rattle.step.proofs.state.count_of.Reads as count-of-reads
+use Rattle.step.proofs.enter.enter_fresh.Reads as enter-fresh-reads
+use Rattle.step.proofs.state.inner.Reads as inner-reads
 use Rattle.prop.proofs.compare.is_alpha.Reads as is-alpha-reads
-use Rattle.marking.proofs.state.leave.Reads as leave-reads
-use Rattle.marking.proofs.node.node.Reads as node-reads
-use Rattle.marking.proofs.head.or_of.Reads as or-of-reads
-use Rattle.marking.proofs.node.put_node.Reads as put-node-reads
+use Rattle.step.proofs.state.leave.Reads as leave-reads
+use Rattle.step.proofs.node.node.Reads as node-reads
+use Rattle.step.proofs.head.or_of.Reads as or-of-reads
+use Rattle.step.proofs.node.put_node.Reads as put-node-reads
 use Rattle.checker.proofs.syn.case.Reads as syn-case
 use Rattle.checker.proofs.syn.synthesize.Reads as synthesize
-use Rattle.marking.proofs.state.term_record.Reads as term-record-reads
+use Rattle.step.proofs.state.term_record.Reads as term-record-reads
 use Rattle.checker.proofs.+chk-abort+chk-asc+chk-case+chk-check+chk-compare+chk-exists+chk-fun+chk-let_in+chk-or+chk-pair+syn-app+syn-asc+syn-case+syn-forall+syn-fun+syn-let_in+syn-pair+syn-proj+syn-synthesize.Proof.Measures.{syn-case-at, synthesize-below}
 
 abbrev claims : ℕ → lts.Claims

@@ -3,18 +3,18 @@ use borrow.Author.Needs.{needs}
 use mathlib.Core.Path.{_∙_}
 use Prim.Native.Nat.{ℕ}
 use native.Mathlib.Omega.{arith}
-use Rattle.marking.proofs.Bounds.{base-header, base-count, ready-work}
-use Rattle.marking.proofs.Ranks.{rank-same}
-use Rattle.marking.proofs.Moves.{loaded-arena, loaded-type, loaded-left, put-more, put-few}
-use Rattle.marking.proofs.Applications.{all-other, all-no-ident, all-unknown, all-stop, all-base, all-body, all-full, all-done}
+use Rattle.step.proofs.Bounds.{base-header, base-count, ready-work}
+use Rattle.step.proofs.Ranks.{rank-same}
+use Rattle.step.proofs.Moves.{loaded-arena, loaded-type, loaded-left, put-more, put-few}
+use Rattle.step.proofs.Applications.{all-other, all-no-ident, all-unknown, all-stop, all-base, all-body, all-full, all-done}
 use Rattle.checker.proofs.+chk-abort+chk-asc+chk-case+chk-check+chk-compare+chk-exists+chk-fun+chk-let_in+chk-or+chk-pair+syn-app+syn-asc+syn-case+syn-forall+syn-fun+syn-let_in+syn-pair+syn-proj+syn-synthesize.Lts-syn-forall as lts
 use Rattle.checker.proofs.chk.check.Reads as check
-use Rattle.marking.proofs.state.count_of.Reads as count-of-reads
-use Rattle.marking.proofs.head.forall_of.Reads as forall-of-reads
-use Rattle.marking.proofs.open.grown.Reads as grown-reads
-use Rattle.marking.proofs.state.left_of.Reads as left-of-reads
-use Rattle.marking.proofs.open.object_of.Reads as object-of-reads
-use Rattle.making.proofs.make.put_in.Reads as put-in-reads
+use Rattle.step.proofs.state.count_of.Reads as count-of-reads
+use Rattle.step.proofs.head.forall_of.Reads as forall-of-reads
+use Rattle.step.proofs.open.grown.Reads as grown-reads
+use Rattle.step.proofs.state.left_of.Reads as left-of-reads
+use Rattle.step.proofs.open.object_of.Reads as object-of-reads
+use Rattle.arena.proofs.make.put_in.Reads as put-in-reads
 use Rattle.checker.proofs.syn.forall.Reads as syn-forall
 use Rattle.checker.proofs.+chk-abort+chk-asc+chk-case+chk-check+chk-compare+chk-exists+chk-fun+chk-let_in+chk-or+chk-pair+syn-app+syn-asc+syn-case+syn-forall+syn-fun+syn-let_in+syn-pair+syn-proj+syn-synthesize.Proof.Measures.{check-below, syn-forall-at}
 

@@ -3,20 +3,20 @@ use borrow.Author.Needs.{needs}
 use mathlib.Core.Path.{_∙_}
 use Prim.Native.Nat.{ℕ}
 use native.Mathlib.Omega.{arith}
-use Rattle.marking.proofs.Ranks.{rank-child}
-use Rattle.marking.proofs.Functions.{fun-place, syn-fun-missing, syn-fun-resolve, syn-fun-unresolved, syn-fun-records, syn-fun-enter, syn-fun-ready, syn-fun-stop, syn-fun-datatype, syn-fun-abstract, syn-fun-full, syn-fun-put, syn-fun-done}
+use Rattle.step.proofs.Ranks.{rank-child}
+use Rattle.step.proofs.Functions.{fun-place, syn-fun-missing, syn-fun-resolve, syn-fun-unresolved, syn-fun-records, syn-fun-enter, syn-fun-ready, syn-fun-stop, syn-fun-datatype, syn-fun-abstract, syn-fun-full, syn-fun-put, syn-fun-done}
 use Rattle.checker.proofs.+chk-abort+chk-asc+chk-case+chk-check+chk-compare+chk-exists+chk-fun+chk-let_in+chk-or+chk-pair+syn-app+syn-asc+syn-case+syn-forall+syn-fun+syn-let_in+syn-pair+syn-proj+syn-synthesize.Lts-syn-fun as lts
-use Rattle.marking.proofs.open.abstract_over.Reads as abstract-over-reads
-use Rattle.marking.proofs.typing.annotation_of.Reads as annotation-of-reads
-use Rattle.marking.proofs.enter.enter_fresh.Reads as enter-fresh-reads
-use Rattle.marking.proofs.state.inner.Reads as inner-reads
-use Rattle.marking.proofs.state.leave.Reads as leave-reads
-use Rattle.marking.proofs.node.node.Reads as node-reads
-use Rattle.marking.proofs.node.put_node.Reads as put-node-reads
-use Rattle.marking.proofs.typing.resolve_type.Reads as resolve-type-reads
+use Rattle.step.proofs.open.abstract_over.Reads as abstract-over-reads
+use Rattle.step.proofs.typing.annotation_of.Reads as annotation-of-reads
+use Rattle.step.proofs.enter.enter_fresh.Reads as enter-fresh-reads
+use Rattle.step.proofs.state.inner.Reads as inner-reads
+use Rattle.step.proofs.state.leave.Reads as leave-reads
+use Rattle.step.proofs.node.node.Reads as node-reads
+use Rattle.step.proofs.node.put_node.Reads as put-node-reads
+use Rattle.step.proofs.typing.resolve_type.Reads as resolve-type-reads
 use Rattle.checker.proofs.syn.fun.Reads as syn-fun
 use Rattle.checker.proofs.syn.synthesize.Reads as synthesize
-use Rattle.marking.proofs.state.term_record.Reads as term-record-reads
+use Rattle.step.proofs.state.term_record.Reads as term-record-reads
 use Rattle.checker.proofs.+chk-abort+chk-asc+chk-case+chk-check+chk-compare+chk-exists+chk-fun+chk-let_in+chk-or+chk-pair+syn-app+syn-asc+syn-case+syn-forall+syn-fun+syn-let_in+syn-pair+syn-proj+syn-synthesize.Proof.Measures.{syn-fun-at, synthesize-below}
 
 abbrev claims : ℕ → lts.Claims

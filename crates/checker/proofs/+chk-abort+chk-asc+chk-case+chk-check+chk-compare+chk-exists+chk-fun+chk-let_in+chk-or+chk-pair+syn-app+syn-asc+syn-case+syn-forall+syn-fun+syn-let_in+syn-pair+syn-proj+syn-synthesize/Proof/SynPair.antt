@@ -4,21 +4,21 @@ use mathlib.Core.Path.{_∙_}
 use Prim.Native.Nat.{ℕ}
 use mathlib.Core.Path.{refl}
 use native.Mathlib.Omega.{arith}
-use Rattle.marking.proofs.Bounds.{base-header, base-count, ready-inner}
-use Rattle.marking.proofs.Ranks.{rank-child}
-use Rattle.marking.proofs.Moves.{loaded-arena, loaded-left, made-more, made-few}
-use Rattle.marking.proofs.PairsMade.{pairing-child-1, pairing-child-2, pairing-ready-1, pairing-stop-1, pairing-ready-2, pairing-stop-2, pairing-base, pairing-second, pairing-first, pairing-types, pairing-put, pairing-full, pairing-done}
+use Rattle.step.proofs.Bounds.{base-header, base-count, ready-inner}
+use Rattle.step.proofs.Ranks.{rank-child}
+use Rattle.step.proofs.Moves.{loaded-arena, loaded-left, made-more, made-few}
+use Rattle.step.proofs.PairsMade.{pairing-child-1, pairing-child-2, pairing-ready-1, pairing-stop-1, pairing-ready-2, pairing-stop-2, pairing-base, pairing-second, pairing-first, pairing-types, pairing-put, pairing-full, pairing-done}
 use Rattle.checker.proofs.+chk-abort+chk-asc+chk-case+chk-check+chk-compare+chk-exists+chk-fun+chk-let_in+chk-or+chk-pair+syn-app+syn-asc+syn-case+syn-forall+syn-fun+syn-let_in+syn-pair+syn-proj+syn-synthesize.Lts-syn-pair as lts
-use Rattle.marking.proofs.state.count_of.Reads as count-of-reads
-use Rattle.marking.proofs.open.grown.Reads as grown-reads
-use Rattle.marking.proofs.state.inner.Reads as inner-reads
-use Rattle.marking.proofs.state.left_of.Reads as left-of-reads
-use Rattle.making.proofs.make.make_and.Reads as make-and-reads
-use Rattle.marking.proofs.node.node.Reads as node-reads
-use Rattle.marking.proofs.node.put_node.Reads as put-node-reads
+use Rattle.step.proofs.state.count_of.Reads as count-of-reads
+use Rattle.step.proofs.open.grown.Reads as grown-reads
+use Rattle.step.proofs.state.inner.Reads as inner-reads
+use Rattle.step.proofs.state.left_of.Reads as left-of-reads
+use Rattle.arena.proofs.make.make_and.Reads as make-and-reads
+use Rattle.step.proofs.node.node.Reads as node-reads
+use Rattle.step.proofs.node.put_node.Reads as put-node-reads
 use Rattle.checker.proofs.syn.pair.Reads as syn-pair
 use Rattle.checker.proofs.syn.synthesize.Reads as synthesize
-use Rattle.marking.proofs.state.term_record.Reads as term-record-reads
+use Rattle.step.proofs.state.term_record.Reads as term-record-reads
 use Rattle.checker.proofs.+chk-abort+chk-asc+chk-case+chk-check+chk-compare+chk-exists+chk-fun+chk-let_in+chk-or+chk-pair+syn-app+syn-asc+syn-case+syn-forall+syn-fun+syn-let_in+syn-pair+syn-proj+syn-synthesize.Proof.Measures.{syn-pair-at, synthesize-below}
 
 abbrev claims : ℕ → lts.Claims

@@ -4,21 +4,21 @@ use mathlib.Core.Path.{_∙_}
 use Prim.Native.Nat.{ℕ}
 use mathlib.Core.Path.{refl}
 use native.Mathlib.Omega.{arith}
-use Rattle.marking.proofs.Bounds.{base-header, base-count, ready-inner, ready-work, ready-tree, ready-goals, ready-goal}
-use Rattle.marking.proofs.Ranks.{rank-same}
-use Rattle.marking.proofs.Dispatch.{kind-is, kind-between, past-one, past-six, past-twelve, inject-not, abort-not, sorry-not}
+use Rattle.step.proofs.Bounds.{base-header, base-count, ready-inner, ready-work, ready-tree, ready-goals, ready-goal}
+use Rattle.step.proofs.Ranks.{rank-same}
+use Rattle.step.proofs.Dispatch.{kind-is, kind-between, past-one, past-six, past-twelve, inject-not, abort-not, sorry-not}
 use Rattle.checker.proofs.+chk-abort+chk-asc+chk-case+chk-check+chk-compare+chk-exists+chk-fun+chk-let_in+chk-or+chk-pair+syn-app+syn-asc+syn-case+syn-forall+syn-fun+syn-let_in+syn-pair+syn-proj+syn-synthesize.Lts-syn-synthesize as lts
 use Rattle.checker.proofs.syn.app.Reads as syn-app
 use Rattle.checker.proofs.syn.asc.Reads as syn-asc
 use Rattle.checker.proofs.syn.case.Reads as syn-case
 use Rattle.checker.proofs.syn.fun.Reads as syn-fun
-use Rattle.marking.proofs.leaf.syn_ident.Reads as syn-ident-reads
+use Rattle.step.proofs.leaf.syn_ident.Reads as syn-ident-reads
 use Rattle.checker.proofs.syn.let_in.Reads as syn-let-in
 use Rattle.checker.proofs.syn.pair.Reads as syn-pair
 use Rattle.checker.proofs.syn.proj.Reads as syn-proj
-use Rattle.marking.proofs.leaf.syn_unit.Reads as syn-unit-reads
+use Rattle.step.proofs.leaf.syn_unit.Reads as syn-unit-reads
 use Rattle.checker.proofs.syn.synthesize.Reads as synthesize
-use Rattle.marking.proofs.state.term_record.Reads as term-record-reads
+use Rattle.step.proofs.state.term_record.Reads as term-record-reads
 use Rattle.checker.proofs.+chk-abort+chk-asc+chk-case+chk-check+chk-compare+chk-exists+chk-fun+chk-let_in+chk-or+chk-pair+syn-app+syn-asc+syn-case+syn-forall+syn-fun+syn-let_in+syn-pair+syn-proj+syn-synthesize.Proof.Measures.{syn-app-below, syn-asc-below, syn-case-below, syn-fun-below, syn-let-in-below, syn-pair-below, syn-proj-below, synthesize-at}
 
 abbrev claims : ℕ → lts.Claims

@@ -2,7 +2,7 @@ use mathlib.Core.Path.{_≡_, ap, sym, _∙_}
 use mathlib.Core.List.{List}
 use Prim.Native.Nat.{ℕ}
 use native.Mathlib.Omega.{arith}
-use Rattle.marking.specs.Rooms.{rooms}
+use Rattle.step.specs.Rooms.{rooms}
 use Rattle.filling.proofs.Reaching.{goal-same, loadable, term-inside, old-inside, waiting, waiting-inside, table-back, wants, ready-waiting, few-pictured, reached}
 use Rattle.rules.specs.Tree.{Gap}
 use Rattle.entry.specs.Ran.{Exact}

@@ -8,7 +8,7 @@ use lib.Seq.{length-take-le}
 use Rattle.rules.specs.Tree.{Gap}
 use Rattle.table.proofs.Passing.{good-passed}
 use Rattle.editing.specs.Edited.{Fillable}
-use Rattle.marking.specs.Rooms.{rooms}
+use Rattle.step.specs.Rooms.{rooms}
 use Rattle.filling.specs.Fill.{lent}
 use Rattle.filling.proofs.Parts.{room-long, part-fits, room-same}
 use Rattle.entry.specs.Ran.{Exact}
@@ -135,7 +135,7 @@ returns c =
           };
       edited = ap length whole ∙ x .edited;
     } in
-    run-from (s .args .old .now) (s .args .goal) (take (s .args .size) (s .args .edited .now)) (take (s .args .size) (reached .last .1 .1 .1 .1 .1 .1 .1 .1 .0 ++ drop (s .args .size) (s .args .edited .now))) same (lent (s .args .tree .now) (s .args .goals .now) (s .args .propositions .now) (s .args .work .now) (s .args .edited .now)) _ _ x z _ (ran .result) _ (c .before .before .before .before .before .before .before .before .before .before .finish .ensures) (λ g goal. hole-meets (s .args .old .now) (s .args .goal) (s .args .hole .0) (s .pre .1 .0) (take (s .args .size) (s .args .edited .now)) (take (s .args .size) (reached .last .1 .1 .1 .1 .1 .1 .1 .1 .0 ++ drop (s .args .size) (s .args .edited .now))) same (rooms (reached .last .1 .1 .1 .1 .0) (reached .last .1 .1 .1 .1 .1 .0) (reached .last .1 .1 .1 .1 .1 .1 .0) (reached .last .1 .1 .1 .1 .1 .1 .1 .0)) (reached .result) (reached .ensures .1) y few (rooms (ran .last .1 .0) (ran .last .1 .1 .0) (ran .last .1 .1 .1 .0) (ran .last .1 .1 .1 .1 .0)) (ran .result) (ran .ensures) g goal)
+    run-from (s .args .old .now) (s .args .goal) (take (s .args .size) (s .args .edited .now)) (take (s .args .size) (reached .last .1 .1 .1 .1 .1 .1 .1 .1 .0 ++ drop (s .args .size) (s .args .edited .now))) same (lent (s .args .tree .now) (s .args .goals .now) (s .args .props .now) (s .args .work .now) (s .args .edited .now)) _ _ x z _ (ran .result) _ (c .before .before .before .before .before .before .before .before .before .before .finish .ensures) (λ g goal. hole-meets (s .args .old .now) (s .args .goal) (s .args .hole .0) (s .pre .1 .0) (take (s .args .size) (s .args .edited .now)) (take (s .args .size) (reached .last .1 .1 .1 .1 .1 .1 .1 .1 .0 ++ drop (s .args .size) (s .args .edited .now))) same (rooms (reached .last .1 .1 .1 .1 .0) (reached .last .1 .1 .1 .1 .1 .0) (reached .last .1 .1 .1 .1 .1 .1 .0) (reached .last .1 .1 .1 .1 .1 .1 .1 .0)) (reached .result) (reached .ensures .1) y few (rooms (ran .last .1 .0) (ran .last .1 .1 .0) (ran .last .1 .1 .1 .0) (ran .last .1 .1 .1 .1 .0)) (ran .result) (ran .ensures) g goal)
 
 pub run-filling-spec : {M : Type 1} → statement M
 run-filling-spec =

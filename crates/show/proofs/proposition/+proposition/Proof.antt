@@ -5,7 +5,7 @@ use borrow.Fn.PlainCycle.{Measures, is, falls, and}
 use Rattle.show.proofs.proposition.proposition.Reads as proposition
 use Rattle.show.proofs.proposition.proposition.Kinds as proposition-kinds
 use Rattle.show.proofs.proposition.+proposition.Lts-proposition as proposition-lts
-use Rattle.number.proofs.record.record_at.Reads as record-at-reads
+use Rattle.numbers.proofs.record.record_at.Reads as record-at-reads
 use Rattle.show.proofs.proposition.atom.Reads as atom-reads
 use Rattle.show.proofs.proposition.link.Reads as link-reads
 use Rattle.show.proofs.index.Reads as index-reads

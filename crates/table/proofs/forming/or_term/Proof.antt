@@ -1,4 +1,4 @@
-use Rattle.number.specs.Limits.{most-terms}
+use Rattle.numbers.specs.Limits.{most-terms}
 use mathlib.Core.Path.{subst}
 use native.Mathlib.Omega.{arith}
 use Rattle.table.specs.declared.Guilty.{Guilty}

@@ -3,7 +3,7 @@ use Prim.Native.Nat.{ℕ, _+_, _≤_, _<_, _-_}
 use native.Mathlib.Omega.{arith}
 use lib.ListN.{length, length-set, getD}
 use borrow.Author.Needs.{needs}
-use Rattle.number.specs.Records.{recordAt}
+use Rattle.numbers.specs.Records.{recordAt}
 use Rattle.layout.specs.File.{terms, asTerm, termRecord}
 use Rattle.table.specs.Reading.{first, first-from}
 use Rattle.table.specs.Size.{depth, too-deep}

@@ -1,0 +1,90 @@
+// What a run carries along, and what it answers.
+ghost use mathlib.Core.Path.{_≡_};
+ghost use Prim.Native.Nat.{_+_, _<_, _≤_};
+ghost use lib.ListN.{length};
+ghost use Rattle.numbers.specs.Limits.{largest};
+ghost use Rattle.rules.specs.State.{limit};
+ghost use Rattle.layout.specs.File.{props, terms, termRecord};
+ghost use Rattle.arena.specs.Copy.{«most-records»};
+ghost use Rattle.table.specs.Passing.{Counted};
+ghost use Rattle.step.specs.Rooms.{countOf, inner, leaving};
+use layout::header::proposition_count;
+use layout::record::TermRecord;
+use layout::record::term_at;
+use numbers::Proposition;
+use numbers::Sort;
+use numbers::Term;
+
+// The counts: tree records, goals, serials and propositions made so far, and how many entries the context has.
+pub struct State {
+    pub records: u16,
+    pub goals: u16,
+    pub serials: u16,
+    pub made: u16,
+    pub context: u16,
+}
+
+// A term that is held to a type fits, or is refused with a number and a place.
+pub enum Checked {
+    Fits(State),
+    Refused(u8, Term),
+}
+
+// A term that is asked for its type has one, or is refused.
+pub enum Synthesized {
+    Has(Sort, State),
+    Refused(u8, Term),
+}
+
+// How many propositions the room holds: the table's, and those made.
+pub fn count_of(file: &[u8], st: State) -> u16
+    requires { ⌜ 16 ≤ length (now file) ⌝ }
+    requires { ⌜ countOf (now file) st ≤ «most-records» ⌝ }
+    ensures { λ r. ⌜ r ≡ countOf (now (file .entry)) st ⌝ }
+{
+    proposition_count(file) + st.made
+}
+
+// How many propositions may still be made.
+pub fn left_of(st: State) -> u16
+    requires { ⌜ st .made ≤ limit ⌝ }
+    ensures { λ r. ⌜ r + st .made ≡ limit ⌝ }
+{
+    Proposition::MADE - st.made
+}
+
+// Premises stand behind their parent's record, which is written last.
+pub fn inner(st: State) -> State
+    requires { ⌜ st .records < largest ⌝ }
+    ensures { λ r. ⌜ r ≡ inner st ⌝ }
+{
+    State {
+        records: st.records + 1,
+        goals: st.goals,
+        serials: st.serials,
+        made: st.made,
+        context: st.context,
+    }
+}
+
+// The context is again as long as it was.
+pub fn leave(st: State, context: u16) -> State
+    ensures { λ r. ⌜ r ≡ leaving st context ⌝ }
+{
+    State {
+        records: st.records,
+        goals: st.goals,
+        serials: st.serials,
+        made: st.made,
+        context,
+    }
+}
+
+// The record of term k.
+pub fn term_record(file: &[u8], k: Term) -> TermRecord
+    requires { ⌜ Counted (now file) ⌝ }
+    requires { ⌜ k .0 < terms (now file) ⌝ }
+    ensures { λ r. ⌜ r ≡ termRecord (now (file .entry)) (k .0) ⌝ }
+{
+    term_at(file, proposition_count(file), k)
+}

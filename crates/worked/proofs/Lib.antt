@@ -1,3 +1,0 @@
--- What the proofs of several functions use.
-pub mod Steps
-pub mod Loads

@@ -32,8 +32,8 @@ extern "C" {
 #define SPOREKETTLE_EDITED 49152   /* sporekettle_fill only */
 #define SPOREKETTLE_TEST_WORK 2048 /* the work room of the two tests */
 
-/* THE STACK that a call may need at most, in bytes. Calls nest with the depth of a term, which is at most 64; the deepest script known takes less than half of
- * this. It is measured and tested, but not proved. */
+/* THE STACK that a call may need at most, in bytes. Calls nest with the depth of a term, which is at most 64. tests/c takes the script that nests deepest and
+ * fails if it needs more than this; so it is measured and tested, but not proved. */
 #define SPOREKETTLE_STACK 262144
 
 /* THE ANSWER, 16 bytes at the beginning of the answer room. Numbers of 16 bits stand low byte first.
@@ -62,35 +62,44 @@ extern "C" {
 #define SPOREKETTLE_ANSWERED 0
 #define SPOREKETTLE_NO_ROOM 1
 
-/* A REFUSAL'S NUMBER. Tests 1 to 7 come in this order; the rest are the rules', and of those the first counts. Where there are two numbers for one thing,
- * the second is given where a type is found rather than tested. The place is 0 for 1 to 3 and 31; for 4 to 7 the lowest guilty record, propositions
- * counted before terms, and 0 for a wrong expected field; from 10 to 30 a term.
+/* A REFUSAL'S NUMBER, what its place counts, and why. A record is one of the file, propositions counted before terms, and the lowest guilty one; place 0 of 5
+ * can be the expected field. Where no word stands, the place is 0. Tests of a table come before the rules, and the first refusal is the answer.
  *
- *    1      a room is too short
- *    2      fewer than 16 bytes, or a wrong header
- *    3      a count past its limit, or a length that does not go with the counts
- *    4      a record of bad form: kind, tag, count of parameters, or a field that is not used
- *    5      a link to nowhere or the wrong way, a record not named just once, or an expected field that is wrong here
- *    6      a proposition too high, or a term too deep
- *    7      the expected proposition has a free name
- *   10, 20  a name that is not known
- *   11      a term of a kind that its expected type does not allow
- *   12, 22  a head of the wrong kind
- *   13, 24  a datatype where a proposition has to be
- *   14      a type other than the expected one
- *   15      an ascription of another type
- *   16, 27  a witness that leaves its let
- *   21      a function that needs an annotation
- *   23      a pair whose second part is a datatype
- *   25      a term whose type cannot be found
- *   26      arms of a case that differ
- *   30      more than 2,048 propositions would be made
- *   31      no goal of that number */
+ * written by tools/words: refusals
+ *    1               a room that was lent is too short
+ *    2               the file does not begin as a table does: it has fewer than 16 bytes, or its mark, its version or one of the header's zero bytes
+ *                    is wrong
+ *    3               the header counts more propositions or terms than a table may have, or no term; or the file is not as long as its counts say
+ *    4  record       the record has a kind, a tag or a parameter count that does not exist, or something stands in a field that its kind does not use
+ *    5  record       a link of the record leads nowhere or the wrong way, or the record is not named exactly once, or the header's expected field is
+ *                    wrong
+ *    6  record       the proposition is higher than 32, or the term stands deeper than 64
+ *    7  proposition  the proposition to prove has a parameter that no quantifier binds
+ *   10  term         a name that is used here is not known
+ *   11  term         a term of this kind cannot prove what is wanted here
+ *   12  term         the head proves the wrong thing: a let takes an Exists apart, a case an Or
+ *   13  term         an object is wanted here and this term gives none, or the witness of an Exists is not a plain name
+ *   14  term         the type here is not the one that is wanted
+ *   15  term         the ascription is not the type that is wanted
+ *   16  term         the let's witness stands in the proposition that is wanted (never given)
+ *   20  term         a name that is used here is not known
+ *   21  term         the type of this function has to be found, so its parameter needs an annotation
+ *   22  term         the wrong thing is taken apart: a projection needs an And, a let an Exists, a case an Or, an application an Impl or a ForAll
+ *   23  term         the second component of a pair must prove a proposition, and it is an object
+ *   24  term         this is an object and has to prove a proposition, or a ForAll is applied to something other than a plain name
+ *   25  term         the type of this term has to be found, and the term does not tell it; an ascription around it would
+ *   26  term         the two arms of the case prove different propositions
+ *   27  term         what the let's body proves speaks of the let's own witness
+ *   30  term         the rule of this term would make more than 2,048 propositions in one run
+ *   31               the old table has no goal of that number
+ * end of tools/words */
 
 /* THE TREE ROOM after an acceptance: 16 bytes a record, each before its premises.
  *
+ * written by tools/words: rules
  *   byte  0   the rule: 0 Ident, 1 TrueIntro, 2 AndIntro, 3 AndElimFst, 4 AndElimSnd, 5 ImplIntro, 6 ImplElim, 7 OrIntroFst, 8 OrIntroSnd, 9 OrElim,
  *             10 FalsumElim, 11 ForAllIntro, 12 ForAllElim, 13 ExistsIntro, 14 ExistsElim, 15 Sorry, 16 AlphaEq
+ * end of tools/words
  *   byte  1   what it concludes: 0 a proposition, 1 that an identifier is of a datatype
  *   bytes 2   the term
  *   bytes 4   the proposition's number in the propositions room, or the datatype

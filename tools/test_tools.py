@@ -1,15 +1,19 @@
 #!/usr/bin/env python3
-"""Tests of the assembler and the disassembler."""
+"""Tests of the assembler, the disassembler, the tables of words and what pages point to."""
+import glob
 import os
 import random
+import re
 import subprocess
 import sys
 import tempfile
 import unittest
 
 HERE = os.path.dirname(os.path.abspath(__file__))
+TOP = os.path.join(HERE, "..")
 sys.path[:0] = [HERE, os.path.join(HERE, "..", "tests", "tables")]
 
+import vocabulary  # noqa: E402
 from ndt import layout  # noqa: E402
 from ndt.build import build  # noqa: E402
 from ndt.notation import NotationError  # noqa: E402
@@ -234,6 +238,51 @@ class Programs(unittest.TestCase):
             self.assertEqual(written.returncode, 1)
             self.assertIn(b"line 1, column 10: expected a name", written.stderr)
             self.assertFalse(os.path.exists(table))
+
+
+class Words(unittest.TestCase):
+    def test_rules_have_the_premises_and_serials_of_stored_trees(self):
+        with open(os.path.join(TOP, "crates", "trace", "stdout"), encoding="utf-8") as file:
+            records = re.findall(r"^(\d+) \d+ (\d+|-) (\d+|-) (\d+) \| ", file.read(), re.M)
+        shapes = {(int(rule), int(premises), sum(serial != "-" for serial in serials)) for rule, *serials, premises in records}
+        self.assertEqual(shapes, {(rule.number, rule.premises, len(rule.serials)) for rule in vocabulary.rules()})
+
+    def test_refusals_are_placed_and_given(self):
+        for refusal in vocabulary.refusals().values():
+            self.assertIn(refusal.counts, ("none", "record", "proposition", "term"))
+            self.assertTrue({"rooms", "table", "filling", "edited", "checking", "synthesis", "goal", "nobody"}.issuperset(refusal.given_by))
+            self.assertTrue(refusal.causes, refusal.number)
+
+    def test_sections_are_there(self):
+        for refusal in vocabulary.refusals().values():
+            for cause in (refusal, *refusal.causes):
+                page, sections = cause.section.split(" ", 1)
+                with open(os.path.join(vocabulary.DOCS, page + ".md"), encoding="utf-8") as file:
+                    text = file.read()
+                for section in sections.split(", "):
+                    self.assertTrue(self.has_section(text, section), cause)
+
+    @staticmethod
+    def has_section(text, section):
+        """A heading's number, with a row's letter after it, or the number of a row."""
+        heading, _, letter = section.partition(" ")
+        below = re.search(r"^#+ %s .*?(?=^#|\Z)" % re.escape(heading), text, re.M | re.S)
+        if letter or not below:
+            return bool(re.search(r"^\| %s \| " % re.escape(letter or section), below.group() if below else text, re.M))
+        return True
+
+
+class Pages(unittest.TestCase):
+    def test_what_pages_point_to_is_there(self):
+        pages = [page for kind in ("*.md", "*/*.md", "tests/*/*.md") for page in glob.glob(os.path.join(TOP, kind))]
+        missing = []
+        for page in pages:
+            with open(page, encoding="utf-8") as file:
+                text = file.read()
+            links = [os.path.join(os.path.dirname(page), link) for link in re.findall(r"\]\((?!http)([^)#]+)", text)]
+            paths = [os.path.join(TOP, path) for path in re.findall(r"\bcrates/\w+(?:/[\w/-]+(?:\.\w+)?)?", text)]
+            missing += [(page, path) for path in links + paths if not os.path.exists(path)]
+        self.assertEqual(missing, [])
 
 
 if __name__ == "__main__":

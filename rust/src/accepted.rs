@@ -11,18 +11,9 @@ use std::fmt;
 use crate::call::Answer;
 use crate::goals::Goals;
 use crate::proposition::Propositions;
+use crate::record::{word, GOAL, RECORD};
 use crate::tree::Tree;
 use crate::Rooms;
-
-/// Bytes of a header, a tree record and a proposition.
-pub(crate) const RECORD: usize = 16;
-/// Bytes of a goal.
-pub(crate) const GOAL: usize = 8;
-
-/// The number of 16 bits at byte `at`, low byte first.
-pub(crate) fn word(bytes: &[u8], at: usize) -> u16 {
-    u16::from_le_bytes([bytes[at], bytes[at + 1]])
-}
 
 /// How many propositions a table has that passes its tests, by its header.
 pub(crate) fn propositions_of(table: &[u8]) -> usize {

@@ -5,6 +5,7 @@
 //! no byte with anything else, and nobody touches rooms or tables before the call is back.
 
 use crate::raw;
+use crate::record::word;
 use crate::Rooms;
 
 /// The 16 bytes of an answer.
@@ -26,7 +27,7 @@ impl Answer {
     }
 
     pub(crate) fn word(&self, at: usize) -> u16 {
-        u16::from_le_bytes([self.0[at], self.0[at + 1]])
+        word(&self.0, at)
     }
 }
 

@@ -2,9 +2,9 @@
 
 use std::fmt;
 
-use crate::accepted::{word, GOAL};
 use crate::number::{PropositionNumber, Term};
 use crate::proposition::Proposition;
+use crate::record::{word, GOAL};
 
 /// One open goal: a Sorry that the rules reached.
 #[derive(Clone, Copy, Debug)]

@@ -59,6 +59,7 @@ mod call;
 mod goals;
 mod number;
 mod proposition;
+mod record;
 mod refusal;
 mod rooms;
 mod tree;
@@ -71,8 +72,9 @@ pub use refusal::{Place, Refusal, Which};
 pub use rooms::{Rooms, Space, EDITED, GOALS, PROPOSITIONS, STACK, TEST_WORK, TREE, WORK};
 pub use tree::{Conclusion, Node, Premises, Rule, Serials, Tree};
 
-use accepted::{propositions_of, terms_of, RECORD};
+use accepted::{propositions_of, terms_of};
 use call::Answer;
+use record::RECORD;
 
 /// The mark of a table: whether its term proves its expected proposition.
 ///

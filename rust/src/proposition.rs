@@ -2,8 +2,8 @@
 
 use std::fmt;
 
-use crate::accepted::{word, RECORD};
 use crate::number::{Name, PropositionNumber, Serial};
+use crate::record::{word, RECORD};
 
 /// A proposition of an accepted run.
 ///

@@ -15,12 +15,13 @@ use crate::raw;
 /// let refusal = sporekettle::test_table(b"NDT", &mut work).unwrap_err();
 /// assert_eq!(
 ///     refusal.to_string(),
-///     "refused 2: these bytes are no proof table of version 1, which begins with a header of 16 bytes"
+///     "refused 2: the file does not begin as a table does: it has fewer than 16 bytes, or its mark, \
+///      its version or one of the header's zero bytes is wrong"
 /// );
 /// ```
 #[derive(Clone, Copy, Debug, PartialEq, Eq, Hash)]
 pub struct Refusal {
-    /// Why: 1 to 7, 10 to 16, 20 to 27, 30 or 31.
+    /// Why: one of [`Refusal::NUMBERS`].
     pub number: u8,
     /// Where. [`Refusal::at`] says what it counts.
     pub place: u16,
@@ -64,6 +65,16 @@ impl Refusal {
         }
     }
 
+    /// All numbers that a call can answer.
+    ///
+    /// ```
+    /// use sporekettle::Refusal;
+    ///
+    /// assert!(Refusal::NUMBERS.contains(&14));
+    /// assert!(!Refusal::NUMBERS.contains(&16)); // it has a meaning, and is never given
+    /// ```
+    pub const NUMBERS: &'static [u8] = include!(concat!(env!("OUT_DIR"), "/numbers.rs"));
+
     /// The place, with what it counts.
     ///
     /// ```
@@ -75,10 +86,10 @@ impl Refusal {
     /// assert_eq!(at(31), Place::None);
     /// ```
     pub fn at(&self) -> Place {
-        match self.number {
-            4..=7 => Place::Record(self.place),
-            10..=30 => Place::Term(Term(self.place)),
-            _ => Place::None,
+        match self.row().map(|row| row.counts) {
+            Some(Counts::Records) => Place::Record(self.place),
+            Some(Counts::Terms) => Place::Term(Term(self.place)),
+            Some(Counts::Nothing) | None => Place::None,
         }
     }
 
@@ -88,77 +99,36 @@ impl Refusal {
     /// use sporekettle::{Refusal, Which};
     ///
     /// let refusal = Refusal { number: 26, place: 4, table: Which::Old };
-    /// assert_eq!(refusal.reason(), "the two arms of this case prove different propositions");
+    /// assert_eq!(refusal.reason(), "the two arms of the case prove different propositions");
     /// ```
     pub fn reason(&self) -> &'static str {
-        match self.number {
-            0..=7 => reason_of_test(self.number),
-            8..=16 => reason_in_checking(self.number),
-            17..=27 => reason_in_synthesis(self.number),
-            30 => "the rule of this term would make more than 2,048 propositions in one run",
-            31 => "the old table has no open goal of this number",
-            _ => UNKNOWN,
-        }
+        self.row().map_or(UNKNOWN, |row| row.words)
+    }
+
+    fn row(&self) -> Option<&'static Row> {
+        ROWS.iter().find(|row| row.number == self.number)
     }
 }
 
 const UNKNOWN: &str = "this number is not in the list of refusals";
-const UNBOUND: &str = "a name that is used here is not known at this point; bind it further out";
-const ESCAPES: &str = "what is proved here speaks of the let's witness, which is known in it only";
 
-fn reason_of_test(number: u8) -> &'static str {
-    match number {
-        1 => "a room that was lent is too short; lend at least the listed sizes",
-        2 => "these bytes are no proof table of version 1, which begins with a header of 16 bytes",
-        3 => "the header's counts are past the limits, or do not go with the length of the file",
-        4 => {
-            "this record has an unknown kind, tag or parameter count, or a value in an unused field"
-        }
-        5 => {
-            "a link of this record goes nowhere or the wrong way, or it is not named exactly once, \
-             or the header's expected field is wrong"
-        }
-        6 => "this proposition is more than 32 high, or this term more than 64 deep",
-        7 => "the proposition to prove has a name that no quantifier binds",
-        _ => UNKNOWN,
-    }
+/// What is known of a number.
+struct Row {
+    number: u8,
+    counts: Counts,
+    words: &'static str,
 }
 
-fn reason_in_checking(number: u8) -> &'static str {
-    match number {
-        10 => UNBOUND,
-        11 => "a term of this kind cannot prove what is wanted here",
-        12 => "this head proves the wrong thing: a let takes an Exists apart, a case an Or",
-        13 => {
-            "an object is wanted here and this term gives none, or the witness of an Exists is not \
-             a plain name"
-        }
-        14 => "the type here is another than the one that is wanted",
-        15 => "the type that is ascribed here is another than the one that is wanted",
-        16 => ESCAPES,
-        _ => UNKNOWN,
-    }
+/// What a place counts.
+#[derive(Clone, Copy)]
+enum Counts {
+    Nothing,
+    Records,
+    Terms,
 }
 
-fn reason_in_synthesis(number: u8) -> &'static str {
-    match number {
-        20 => UNBOUND,
-        21 => "nothing says what this function takes; annotate its parameter",
-        22 => {
-            "the wrong thing is taken apart: a projection needs an And, a let an Exists, a case an \
-             Or, an application an Impl or a ForAll"
-        }
-        23 => "the second part of this pair is an object and has to prove a proposition",
-        24 => {
-            "this is an object and has to prove a proposition, or a ForAll is applied to something \
-             other than a plain name"
-        }
-        25 => "what this term proves cannot be found from it; ascribe a type to it",
-        26 => "the two arms of this case prove different propositions",
-        27 => ESCAPES,
-        _ => UNKNOWN,
-    }
-}
+/// The rows of docs/refusals.txt, by build/words.rs.
+const ROWS: &[Row] = include!(concat!(env!("OUT_DIR"), "/refusals.rs"));
 
 impl fmt::Display for Refusal {
     fn fmt(&self, f: &mut fmt::Formatter<'_>) -> fmt::Result {

@@ -2,9 +2,9 @@
 
 use std::fmt;
 
-use crate::accepted::{word, RECORD};
 use crate::number::{Name, PropositionNumber, Serial, Term};
 use crate::proposition::Proposition;
+use crate::record::{word, RECORD};
 
 /// The tree of an accepted script. Its records stand parent first, then the premises from left to
 /// right, each with all that is above it.
@@ -233,10 +233,7 @@ pub enum Conclusion<'a> {
 ///
 /// | Rule | first | second |
 /// |---|---|---|
-/// | Ident | of the identifier that is used | none |
-/// | ImplIntro, ForAllIntro | made for the parameter | none |
-/// | OrElim | made for the left arm | made for the right arm |
-/// | ExistsElim | made for the witness | made for what is known of it |
+#[doc = include_str!(concat!(env!("OUT_DIR"), "/serials.md"))]
 /// | any other | none | none |
 #[derive(Clone, Copy, Debug, PartialEq, Eq, Hash)]
 pub struct Serials {
@@ -246,59 +243,34 @@ pub struct Serials {
     pub second: Option<Serial>,
 }
 
-/// A rule of natural deduction. `Display` writes its name.
-///
-/// ```
-/// use sporekettle::Rule;
-///
-/// assert_eq!(Rule::ImplIntro.to_string(), "ImplIntro");
-/// assert_eq!(Rule::ImplIntro.number(), 5);
-/// assert_eq!(Rule::ALL[5], Rule::ImplIntro);
-/// ```
-#[derive(Clone, Copy, Debug, PartialEq, Eq, Hash)]
-#[allow(missing_docs)] // The names are those of the rules.
-pub enum Rule {
-    Ident,
-    TrueIntro,
-    AndIntro,
-    AndElimFst,
-    AndElimSnd,
-    ImplIntro,
-    ImplElim,
-    OrIntroFst,
-    OrIntroSnd,
-    OrElim,
-    FalsumElim,
-    ForAllIntro,
-    ForAllElim,
-    ExistsIntro,
-    ExistsElim,
-    Sorry,
-    AlphaEq,
+macro_rules! rules {
+    ($($name:ident),*) => {
+        /// A rule of natural deduction. `Display` writes its name.
+        ///
+        /// ```
+        /// use sporekettle::Rule;
+        ///
+        /// assert_eq!(Rule::ImplIntro.to_string(), "ImplIntro");
+        /// assert_eq!(Rule::ImplIntro.number(), 5);
+        /// assert_eq!(Rule::ALL[5], Rule::ImplIntro);
+        /// ```
+        #[derive(Clone, Copy, Debug, PartialEq, Eq, Hash)]
+        #[allow(missing_docs)] // The names are those of the rules.
+        pub enum Rule {
+            $($name),*
+        }
+
+        impl Rule {
+            /// All rules, each at its number.
+            pub const ALL: [Rule; [$(Rule::$name),*].len()] = [$(Rule::$name),*];
+        }
+    };
 }
 
-impl Rule {
-    /// All rules, each at its number.
-    pub const ALL: [Rule; 17] = [
-        Rule::Ident,
-        Rule::TrueIntro,
-        Rule::AndIntro,
-        Rule::AndElimFst,
-        Rule::AndElimSnd,
-        Rule::ImplIntro,
-        Rule::ImplElim,
-        Rule::OrIntroFst,
-        Rule::OrIntroSnd,
-        Rule::OrElim,
-        Rule::FalsumElim,
-        Rule::ForAllIntro,
-        Rule::ForAllElim,
-        Rule::ExistsIntro,
-        Rule::ExistsElim,
-        Rule::Sorry,
-        Rule::AlphaEq,
-    ];
+// The rules of docs/rules.txt, by build/words.rs.
+include!(concat!(env!("OUT_DIR"), "/rules.rs"));
 
+impl Rule {
     /// Its number in a tree record.
     pub fn number(self) -> u8 {
         self as u8

@@ -1,6 +1,6 @@
 #!/usr/bin/env python3
-"""Holds tools/explain.py against the refused scripts of tests/scripts: each has its words, and all words are met, but for those of three refusals that
-no script gets."""
+"""Holds tools/explain.py against the refused scripts of tests/scripts: each has its cause in docs/refusals.txt, and each cause there is met, but for those
+of refusals that no script gets."""
 import os
 import sys
 
@@ -13,8 +13,8 @@ import reference  # noqa: E402
 from ndt.script import assemble  # noqa: E402
 from rows import ROWS  # noqa: E402
 
-# The programs' rooms are long enough, no run is refused 16, and only a filling is refused 31.
-NO_SCRIPTS = {1, 16, 31}
+# Who refuses a script that is marked. (The programs' rooms are long enough.)
+GIVERS = {"table", "checking", "synthesis"}
 
 # Projections where two rules could have refused.
 MORE = (
@@ -36,13 +36,15 @@ def refusals():
 def main():
     met, count = set(), 0
     for script, data, number, place in refusals():
-        kind, under, _ = explain.where(data, number, place, place)
-        found = [row for row in explain.CAUSES if explain.fits(row, number, kind, under)]
-        if not found:
-            sys.exit("no words for refusal %d at %d: %s" % (number, place, script[:200]))
-        met.add(found[0])
+        refusal = explain.REFUSALS[number]
+        kind, under, _ = explain.where(data, refusal, place, place)
+        cause = explain.cause_of(refusal, kind, under)
+        if cause is None:
+            sys.exit("no cause for refusal %d at %d: %s" % (number, place, script[:200]))
+        met.add((number, cause))
         count += 1
-    unmet = [row.words for row in explain.CAUSES if row not in met and row.number not in NO_SCRIPTS]
+    wanted = ((refusal.number, cause) for refusal in explain.REFUSALS.values() if GIVERS.intersection(refusal.given_by) for cause in refusal.causes)
+    unmet = ["%d, %s" % (number, cause.words) for number, cause in wanted if (number, cause) not in met]
     if unmet:
         sys.exit("no script gets: " + "; ".join(unmet))
     print("%d refusals explained" % count)

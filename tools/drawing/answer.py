@@ -24,11 +24,11 @@ class Node(NamedTuple):
     goal: Optional[int]
 
 
-def ask(data):
-    """The lines of the answer to a table. An empty one would end the input of `trace`; the first test of a file refuses it."""
+def ask(data, program):
+    """The lines of the answer to a table by `trace`, which tools/run finds. An empty one would end the input of `trace`; the first test of a file refuses it."""
     if not data:
         return ["refused 2 0"]
-    run = subprocess.run([RUN, "trace"], input=len(data).to_bytes(4, "little") + data, stdout=subprocess.PIPE, check=True)
+    run = subprocess.run([RUN, program], input=len(data).to_bytes(4, "little") + data, stdout=subprocess.PIPE, check=True)
     return run.stdout.decode().split("\n\n")[0].split("\n")[1:]
 
 

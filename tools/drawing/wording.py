@@ -2,18 +2,13 @@
 import re
 from typing import NamedTuple, Optional
 
+import vocabulary
 from ndt import layout
 from ndt.show import OPEN, PARTS, PROP_TIGHTNESS, SIMPLE
 
 KINDS = {">": "Impl", "|": "Or", "&": "And", "A": "ForAll", "E": "Exists", "p": "Atom", "T": "True", "F": "False"}
-RULES = ("Ident", "TrueIntro", "AndIntro", "AndElimFst", "AndElimSnd", "ImplIntro", "ImplElim", "OrIntroFst", "OrIntroSnd", "OrElim", "FalsumElim",
-         "ForAllIntro", "ForAllElim", "ExistsIntro", "ExistsElim", "Sorry", "AlphaEq")
-IDENT = RULES.index("Ident")
-# A rule's sign and what it does with it.
-LABELS = {"TrueIntro": ("True", "I"), "AndIntro": ("And", "I"), "AndElimFst": ("And", "E1"), "AndElimSnd": ("And", "E2"),
-          "ImplIntro": ("Impl", "I"), "ImplElim": ("Impl", "E"), "OrIntroFst": ("Or", "I1"), "OrIntroSnd": ("Or", "I2"), "OrElim": ("Or", "E"),
-          "FalsumElim": ("False", "E"), "ForAllIntro": ("ForAll", "I"), "ForAllElim": ("ForAll", "E"), "ExistsIntro": ("Exists", "I"),
-          "ExistsElim": ("Exists", "E"), "AlphaEq": ("Alpha", "")}
+RULES = vocabulary.rules()
+IDENT = next(rule.number for rule in RULES if rule.name == "Ident")
 
 
 class Plain:
@@ -84,7 +79,7 @@ class Wording:
             fields = (self.terms[node.term][field] for field in ("name1", "name2"))
             self.makers.update(zip(node.serials, fields))
         said = self.concluded(node.conclusion)
-        about = "term %d: %s" % (node.term, RULES[node.rule])
+        about = "term %d: %s" % (node.term, RULES[node.rule].name)
         if node.rule == IDENT:
             return Figure("[%s]%s" % (said, self.signs.high(*node.serials)), None, False, about, ())
         return Figure(said, self.label(node), node.goal is not None, about, tuple(self.figure(premise) for premise in node.premises))
@@ -92,8 +87,8 @@ class Wording:
     def label(self, node):
         if node.goal is not None:
             return "goal %d" % node.goal
-        sign, text = LABELS[RULES[node.rule]]
-        return self.signs.rule(self.signs.SIGNS[sign], text, [str(serial) for serial in node.serials])
+        sign, *text = RULES[node.rule].label
+        return self.signs.rule(self.signs.SIGNS[sign], "".join(text), [str(serial) for serial in node.serials])
 
     # Names
 

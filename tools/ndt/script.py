@@ -166,9 +166,9 @@ def value_of(parser, field, words=()):
     return parser.expect_number(256 ** field.width - 1)
 
 
-def assemble(text):
-    """The bytes that a script writes, and the number of each spelling in it."""
-    found = statements(text)
+def assemble(text, names=""):
+    """The bytes that a script writes, and the number of each spelling in it. `names` are statements to begin with."""
+    found = statements(names) + statements(text)
     written = {token.written_number() for tokens in found for token in tokens if token.is_written_name()}
     assembler = Assembler(Names(written))
     for tokens in found:

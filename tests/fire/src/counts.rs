@@ -1,14 +1,18 @@
 //! What has been tried so far.
 
+use std::collections::BTreeMap;
+
 use crate::bench::Outcome;
 use crate::input::{Entry, Input, ANSWER};
 use plain::Answer;
+use sporekettle::{Refusal, Rule};
 
 #[derive(Default)]
 pub struct Counts {
     pub inputs: u64,
     accepted: [u64; 4],
-    refused: [[u64; 4]; 32],
+    /// By number, how often each entry gave it.
+    refused: BTreeMap<u8, [u64; 4]>,
     goals: u64,
     short: u64,
     no_answer: u64,
@@ -17,33 +21,10 @@ pub struct Counts {
     /// Of these, checks of the edited table that were refused 30.
     late: u64,
     /// How often each rule stood in an accepted tree, and how many trees were how long.
-    rules: [u64; 17],
+    rules: [u64; Rule::ALL.len()],
     lengths: [u64; 5],
     made: u64,
 }
-
-const RULES: [&str; 17] = [
-    "Ident",
-    "TrueIntro",
-    "AndIntro",
-    "AndElimFst",
-    "AndElimSnd",
-    "ImplIntro",
-    "ImplElim",
-    "OrIntroFst",
-    "OrIntroSnd",
-    "OrElim",
-    "FalsumElim",
-    "ForAllIntro",
-    "ForAllElim",
-    "ExistsIntro",
-    "ExistsElim",
-    "Sorry",
-    "AlphaEq",
-];
-
-/// Numbers that no answer has: some are not used, and 16 is never given.
-const NEVER: [usize; 9] = [0, 8, 9, 16, 17, 18, 19, 28, 29];
 
 impl Counts {
     /// Counts an input that went well. `tree` has the records of an acceptance.
@@ -66,14 +47,14 @@ impl Counts {
                 self.add_tree(tree);
             }
             Answer::Refused { number, .. } => {
-                self.refused[usize::from(number) % 32][entry] += 1;
+                self.refused.entry(number).or_default()[entry] += 1;
             }
         }
     }
 
     fn add_tree(&mut self, tree: &[u8]) {
         for record in tree.chunks(16) {
-            self.rules[usize::from(record[0]) % RULES.len()] += 1;
+            self.rules[usize::from(record[0])] += 1;
         }
         let length = match tree.len() / 16 {
             0 => return,
@@ -88,7 +69,7 @@ impl Counts {
 
     /// How often each rule came up, and how long the trees were.
     pub fn trees(&self) -> String {
-        let rules: Vec<String> = RULES
+        let rules: Vec<String> = Rule::ALL
             .iter()
             .zip(self.rules)
             .map(|(rule, many)| format!("{rule} {many}"))
@@ -116,10 +97,12 @@ impl Counts {
             "", heads[0], heads[1], heads[2], heads[3]
         );
         table += &row("accepted".to_string(), &self.accepted);
-        for (number, of) in self.refused.iter().enumerate() {
-            if of.iter().sum::<u64>() > 0 || !NEVER.contains(&number) {
-                table += &row(number.to_string(), of);
-            }
+        let mut refused = self.refused.clone();
+        for &number in Refusal::NUMBERS {
+            refused.entry(number).or_default();
+        }
+        for (number, of) in refused {
+            table += &row(number.to_string(), &of);
         }
         table
     }
@@ -130,15 +113,13 @@ impl Counts {
         if self.inputs < inputs {
             missing.push(format!("{} more inputs", inputs - self.inputs));
         }
-        for (number, of) in self.refused.iter().enumerate() {
-            if of.iter().sum::<u64>() == 0 && !NEVER.contains(&number) {
-                missing.push(format!("refusal {number}"));
-            }
-        }
+        let met = |number: &u8| self.refused.contains_key(number);
+        let unmet = Refusal::NUMBERS.iter().filter(|number| !met(number));
+        missing.extend(unmet.map(|number| format!("refusal {number}")));
         if self.late == 0 {
             missing.push("a filling after which the edited table is refused 30".to_string());
         }
-        let rules = RULES.iter().zip(self.rules);
+        let rules = Rule::ALL.iter().zip(self.rules);
         missing.extend(
             rules
                 .filter(|(_, many)| *many == 0)
@@ -155,7 +136,7 @@ impl Counts {
 
     pub fn line(&self) -> String {
         let checks = Entry::Check as usize;
-        let refused: u64 = self.refused.iter().map(|of| of[checks]).sum();
+        let refused: u64 = self.refused.values().map(|of| of[checks]).sum();
         format!(
             "{} inputs, {} of {} checks accepted, {} acceptances with goals, {} with a short room, {} with a short \
              answer room, {} run twice, {} fillings held against a check, {} of these refused 30",

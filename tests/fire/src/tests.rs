@@ -12,6 +12,7 @@ use crate::same::Meanings;
 use crate::script::{Record, Script, ALL, ATOM, FUNCTION, IDENT, IMPL, SORRY};
 use crate::seeds::Seeds;
 use plain::{Answer, Counts, Which};
+use sporekettle::{Refusal, Rule};
 use std::collections::HashSet;
 
 /// `fun x. fun h. h` for `all x:D. (P(x) -> P(x))`, or `fun x. fun h. sorry` for `all x:D. (P(x) -> Q(x))`.
@@ -519,21 +520,24 @@ fn tried(numbers: &[u8], rules: &[u8], late: bool) -> Tried {
 
 #[test]
 fn a_run_that_leaves_something_out_is_seen() {
-    let numbers = [
-        1, 2, 3, 4, 5, 6, 7, 10, 11, 12, 13, 14, 15, 20, 21, 22, 23, 24, 25, 26, 27, 30, 31,
-    ];
-    let rules: Vec<u8> = (0..=16).collect();
-    let all = tried(&numbers, &rules, true);
-    assert!(all.covers(24).is_ok() && all.covers(25).is_err());
-    assert!(tried(&numbers, &rules, false).covers(0).is_err());
-    for left_out in numbers {
-        let fewer: Vec<u8> = numbers.into_iter().filter(|&n| n != left_out).collect();
-        let says = tried(&fewer, &rules, true).covers(0).unwrap_err();
+    let numbers = Refusal::NUMBERS;
+    let rules: Vec<u8> = Rule::ALL.iter().map(|rule| rule.number()).collect();
+    let all = tried(numbers, &rules, true);
+    let inputs = numbers.len() as u64 + 1;
+    assert!(all.covers(inputs).is_ok() && all.covers(inputs + 1).is_err());
+    assert!(tried(numbers, &rules, false).covers(0).is_err());
+    let without =
+        |all: &[u8], one: u8| -> Vec<u8> { all.iter().copied().filter(|&n| n != one).collect() };
+    for &left_out in numbers {
+        let says = tried(&without(numbers, left_out), &rules, true)
+            .covers(0)
+            .unwrap_err();
         assert!(says.ends_with(&format!("wanting: refusal {left_out}")));
     }
-    for left_out in 0..=16 {
-        let fewer: Vec<u8> = (0..=16).filter(|&rule| rule != left_out).collect();
-        assert!(tried(&numbers, &fewer, true).covers(0).is_err());
+    for &left_out in &rules {
+        assert!(tried(numbers, &without(&rules, left_out), true)
+            .covers(0)
+            .is_err());
     }
 }
 

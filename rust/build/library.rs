@@ -2,13 +2,13 @@
 
 use std::env;
 use std::path::{Path, PathBuf};
-use std::process::exit;
+
+use crate::{stop, variable};
 
 const VARIABLE: &str = "SPOREKETTLE_LIBRARY";
 const FILE: &str = "libexport.a";
 
-fn main() {
-    println!("cargo:rerun-if-changed=build.rs");
+pub fn link() {
     println!("cargo:rerun-if-env-changed={VARIABLE}");
     let library = library();
     // A file that is not there counts as changed, so the next build looks for it again.
@@ -42,13 +42,4 @@ fn library() -> PathBuf {
         Some(path) => here.join(path),
         None => here.join("../target/staticlib").join(FILE),
     }
-}
-
-fn variable(name: &str) -> String {
-    env::var(name).unwrap_or_else(|_| stop(&format!("cargo did not set {name}")))
-}
-
-fn stop(why: &str) -> ! {
-    eprintln!("sporekettle: {why}");
-    exit(1)
 }

@@ -1,5 +1,5 @@
 #!/usr/bin/env python3
-"""Reads the LLVM module of a program that holds the functions of `export`, and writes it with a way in to each for C: see tools/library."""
+"""Reads the LLVM module of a program that holds the functions of `export`, and writes it with a way in to each for C: see the script `library`."""
 import re
 import sys
 

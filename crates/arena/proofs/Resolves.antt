@@ -1,23 +1,21 @@
 -- Resolving: names known and unknown, and what `resolve` answers. Assumes nothing.
 use mathlib.Core.Path.{_≡_, refl, ap, sym, subst⁻¹, _∙_}
-use mathlib.Core.Bool.{Bool, true, false, _&&_, _||_, not, cond, and-true}
-use mathlib.Core.List.{List, [], _∷_}
+use mathlib.Core.Bool.{Bool, true, false, _&&_, not, cond}
+use mathlib.Core.List.{List}
 use mathlib.Core.Option.{Option, none, some}
 use Prim.Native.Nat.{ℕ, zero, suc, _+_, _<_, _≤_}
 use native.Mathlib.Omega.{arith}
-use lib.ListN.{getD, take}
-use lib.Seq.{take-nil}
-use lib.Dec.{eqb, ltb}
-use borrow.Author.Tests.{lt-ltb}
+use lib.Dec.{eqb}
 use Rattle.numbers.specs.declared.Sort.{Sort}
 use Rattle.numbers.specs.declared.Sort.the-variants as type
 use Rattle.numbers.specs.declared.Name.{Name}
 use Rattle.numbers.specs.declared.Proposition.{Proposition}
+use Rattle.numbers.specs.declared.Serial.{Serial}
 use Rattle.numbers.specs.declared.record.Record.{Record}
 use Rattle.numbers.specs.Limits.{largest}
 use Rattle.numbers.specs.Records.{recordAt}
 use Rattle.rules.specs.Prop.{Param, free, ser, bound, Prop, Ty, prop, datatype, copy, walk, each-param, each, size, size-ty}
-use Rattle.rules.specs.Context.{Ctx, Entry, find, known-in, known, settle-as, settle, resolve}
+use Rattle.rules.specs.Context.{Entry, find, known-in, known, settle-as, settle, resolve}
 use Rattle.rules.specs.State.{limit}
 use Rattle.rules.proofs.Renaming.{size-walk}
 use Rattle.context.specs.declared.identifier_context.Entry.{Entry as Held}
@@ -30,7 +28,10 @@ use Rattle.arena.specs.declared.copy.Copied.{Copied}
 use Rattle.prop.specs.declared.size.Nodes.{Nodes}
 use Rattle.prop.specs.declared.size.Nodes.the-variants as nodes
 use Rattle.arena.specs.declared.resolve.Resolved.the-variants as is
-use Rattle.prop.specs.Room.{param, kind-0, kind-1, kind-2, kind-3, params, roomAt, typeAt, Arena}
+use Rattle.prop.specs.declared.atom.Parameter.{Parameter}
+use Rattle.prop.specs.declared.atom.Parameter.the-variants.{Free, Identifier, Bound}
+use Rattle.prop.specs.Room.{params, roomAt, typeAt, Arena}
+use Rattle.prop.specs.Atom.{passes}
 use Rattle.prop.specs.Size.{counted}
 use Rattle.arena.specs.Copy.{most-records, names, changed, CopiedIs}
 use Rattle.arena.specs.Resolve.{all-known, ResolvesTo, ResolvedIs}
@@ -38,50 +39,28 @@ use Rattle.prop.proofs.Views.{at-constant, at-linked, at-quantified, at-atomic}
 use Rattle.prop.proofs.Counts.{counted-within, counted-over}
 use Rattle.prop.proofs.Occurs.{not-not, each-deep}
 
--- ONE PARAMETER
-known-name : (Γ : Ctx) (k x : ℕ) (o : Option Entry) → k ≡ 0 → find x Γ ≡ o → known-in o ≡ known Γ (param k x)
-unfolding known param
-known-name Γ k x o e f = rw (e, f)
+-- ONE PARAMETER, by what is in its place
+module _ (w : List ℕ) (n : ℕ) (p : Parameter) where
+  module _ (x : Name) (e : p ≡ Free x) (r : Found) (l : Latest w n (x .0) r) where
+    known-name : (o : Option Entry) → find (x .0) (names w n) ≡ o → known-in o ≡ passes (known (names w n)) p
+    unfolding known
+    known-name o f = rw (e, f)
 
-module _ (w : List ℕ) (n k x : ℕ) where
-  module _ (e : k ≡ 0) (r : Found) (p : Latest w n x r) where
-    pub known-held : (y : Held) → r ≡ here.Held y → true ≡ known (names w n) (param k x)
+    pub known-held : (y : Held) → r ≡ here.Held y → true ≡ passes (known (names w n)) p
     unfolding known-in
-    known-held y q = known-name (names w n) k x _ e (held-finds _ p q)
+    known-held y q = known-name _ (held-finds _ l q)
 
-    pub known-nothing : r ≡ here.Nothing → false ≡ known (names w n) (param k x)
+    pub known-nothing : r ≡ here.Nothing → false ≡ passes (known (names w n)) p
     unfolding known-in
-    known-nothing q = known-name (names w n) k x _ e (nothing-finds _ p q)
+    known-nothing q = known-name _ (nothing-finds _ l q)
 
-  pub known-serial : k ≡ 1 → false ≡ known (names w n) (param k x)
-  unfolding known param
-  known-serial e = rw e
+  pub known-identifier : (i : Serial) → p ≡ Identifier i → false ≡ passes (known (names w n)) p
+  unfolding known
+  known-identifier i e = rw e
 
-pub known-rest : (w : List ℕ) (n k x : ℕ) → (k ≡ 0 → ⊥) → (k ≡ 1 → ⊥) → true ≡ known (names w n) (param k x)
-unfolding known param
-known-rest w n zero x a b = absurd (a refl)
-known-rest w n (suc zero) x a b = absurd (b refl)
-known-rest w n (suc (suc k)) x a b = refl
-
--- AN ATOM: its first parameters pass a test
-module _ (t : Param → Bool) (x y z v : Param) where
-  first-pass : (n : ℕ) → ((not (ltb 0 n) || t x) && ((not (ltb 1 n) || t y) && ((not (ltb 2 n) || t z) && (not (ltb 3 n) || t v)))) ≡ each-param t (take n (x ∷ y ∷ z ∷ v ∷ []))
-  unfolding each-param
-  first-pass zero = refl
-  first-pass (suc zero) = refl
-  first-pass (suc (suc zero)) = refl
-  first-pass (suc (suc (suc zero))) = refl
-  first-pass (suc (suc (suc (suc n)))) =
-      let more : (i : ℕ) → i < 4 → ltb i (suc (suc (suc (suc n)))) ≡ true = λ i l. lt-ltb i (suc (suc (suc (suc n)))) (omega arith) in
-      rw (more 0 (omega arith), more 1 (omega arith), more 2 (omega arith), more 3 (omega arith), take-nil {A = Param} n)
-      (ap (λ (b : Bool). t x && (t y && (t z && b))) (sym (and-true (t v))))
-
-pub atom-passes : (w : List ℕ) (n : ℕ) (r : Record) (a b c d : Bool) → a ≡ known (names w n) (param (kind-0 (r .b)) (getD (r .parameters) 0 0))
-    → b ≡ known (names w n) (param (kind-1 (r .b)) (getD (r .parameters) 1 0)) → c ≡ known (names w n) (param (kind-2 (r .b)) (getD (r .parameters) 2 0))
-    → d ≡ known (names w n) (param (kind-3 (r .b)) (getD (r .parameters) 3 0))
-    → ((not (ltb 0 (r .count)) || a) && ((not (ltb 1 (r .count)) || b) && ((not (ltb 2 (r .count)) || c) && (not (ltb 3 (r .count)) || d)))) ≡ each-param (known (names w n)) (params r)
-unfolding params
-atom-passes w n r a b c d ea eb ec ed = rw (ea, eb, ec, ed) (first-pass (known (names w n)) _ _ _ _ (r .count))
+  pub known-bound : (k : ℕ) → p ≡ Bound k → true ≡ passes (known (names w n)) p
+  unfolding known
+  known-bound k e = rw e
 
 -- `all_known`, in the order of its code
 module _ (old : List ℕ) (c n : ℕ) (ok : Arena old c) (k : n < c) (w : List ℕ) (len : ℕ) (r : Record) (er : r ≡ recordAt old n) where

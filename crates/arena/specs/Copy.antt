@@ -1,6 +1,6 @@
 -- Copies of a proposition, its parameters changed. Assumes nothing.
 use mathlib.Core.Path.{_≡_}
-use mathlib.Core.Bool.{Bool, true, false}
+use mathlib.Core.Bool.{true}
 use mathlib.Core.List.{List, map}
 use Prim.Native.Nat.{ℕ, _+_, _*_, _<_, _≤_}
 use lib.ListN.{length}
@@ -14,7 +14,7 @@ use Rattle.context.specs.Context.{ctxAt}
 use Rattle.arena.specs.declared.copy.Change.{Change}
 use Rattle.arena.specs.declared.copy.Change.the-variants as to
 use Rattle.arena.specs.declared.copy.Copied.{Copied}
-use Rattle.prop.specs.Room.{param, params, roomAt, room-form, Arena}
+use Rattle.prop.specs.Room.{params, roomAt, room-form, Arena}
 
 -- the room's records: a table's, and as many as a run may make
 abbrev pub most-records : ℕ
@@ -35,12 +35,6 @@ abbrev pub ChangeIn : List ℕ → Change → Type 0
 ChangeIn w (to.Put s) = Unit {0}
 ChangeIn w (to.Bind s) = Unit {0}
 ChangeIn w (to.Resolve n) = 8 * n ≤ length w
-
--- kind l and number y are what becomes of kind k and number x; where no parameter uses them, they stay
-pub record ChangedIs (used : Bool) (h : Param → Param) (k x l y : ℕ) : Type 0 where
-  pub known : l < 3
-  pub unused : used ≡ false → (l ≡ k) × (y ≡ x)
-  pub means : used ≡ true → param l y ≡ h (param k x)
 
 -- q is the atom r with its parameters changed
 pub record AtomIs (h : Param → Param) (r q : Record) : Type 0 where

@@ -1,52 +1,30 @@
 -- Document 01, "Tree, goals, filling": a table's propositions at the front of their room, each record as in the file, but that an atom says
 -- which of its names are bound and by what. Assumes nothing.
 use mathlib.Core.Path.{_≡_}
-use mathlib.Core.Bool.{Bool, cond}
-use mathlib.Core.List.{List, [], _∷_}
-use Prim.Native.Nat.{ℕ, _+_, _*_, _<_, _≤_}
-use lib.ListN.{length, getD}
-use lib.Dec.{ltb}
+use mathlib.Core.List.{List}
+use Prim.Native.Nat.{ℕ, _<_, _≤_}
+use lib.ListN.{length}
 use Rattle.numbers.specs.declared.record.Record.{Record}
 use Rattle.numbers.specs.Records.{recordAt}
 use Rattle.rules.specs.Prop.{Param, free, ser, bound}
 use Rattle.layout.specs.File.{props, propRecord, PropKind, constant, linked, quantified, atomic, strange, prop-kind}
 use Rattle.table.specs.Reading.{binders, settled, propAt}
+use Rattle.prop.specs.declared.atom.Parameter.{Parameter}
 use Rattle.prop.specs.Room.{roomAt, Arena}
+use Rattle.prop.specs.Atom.{parameterAt, becomes, with-parameters}
 
--- HOW A PARAMETER IS WRITTEN: its kind, and its number
-unfoldable pub kind-in : Param → ℕ
-kind-in (free x) = 0
-kind-in (ser i) = 1
-kind-in (bound k) = 2
-
-unfoldable pub number-in : Param → ℕ
-number-in (free x) = x
-number-in (ser i) = i
-number-in (bound k) = k
-
--- the name x in record n; a parameter that is not used is all zeros
-abbrev pub loaded-param : List ℕ → ℕ → Bool → ℕ → Param
-loaded-param l n used x = cond used (settled x 0 (binders l n)) (free 0)
-
-pub record ParameterIs (P : Param) (k x : ℕ) : Type 0 where
-  pub kind : k ≡ kind-in P
-  pub number : x ≡ number-in P
-  pub known : k < 3
+-- A PARAMETER of record n: a name is settled. (A table has no others.)
+unfoldable pub named : List ℕ → ℕ → Param → Param
+named l n (free x) = settled x 0 (binders l n)
+named l n (ser i) = ser i
+named l n (bound k) = bound k
 
 -- AN ATOM r, which is record n
-abbrev pub place : List ℕ → ℕ → Record → ℕ → Param
-place l n r i = loaded-param l n (ltb i (r .count)) (getD (r .parameters) i 0)
+abbrev pub loaded-at : List ℕ → ℕ → Record → ℕ → Parameter
+loaded-at l n r i = becomes (named l n) (parameterAt r i)
 
 abbrev pub loaded-atom : List ℕ → ℕ → Record → Record
-loaded-atom l n r =
-    record {
-      kind = r .kind;
-      count = r .count;
-      a = r .a;
-      b = kind-in (place l n r 0) + 4 * kind-in (place l n r 1) + 16 * kind-in (place l n r 2) + 64 * kind-in (place l n r 3);
-      c = r .c;
-      parameters = number-in (place l n r 0) ∷ number-in (place l n r 1) ∷ number-in (place l n r 2) ∷ number-in (place l n r 3) ∷ [];
-    }
+loaded-atom l n r = with-parameters r (loaded-at l n r 0) (loaded-at l n r 1) (loaded-at l n r 2) (loaded-at l n r 3)
 
 -- A RECORD of the table, in the room
 unfoldable pub loaded-as : List ℕ → ℕ → PropKind → Record → Record

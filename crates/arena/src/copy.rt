@@ -4,11 +4,12 @@ ghost use mathlib.Core.Bool.{true};
 ghost use Prim.Native.Nat.{ℕ, _+_, _*_, _<_, _≤_};
 ghost use lib.ListN.{length};
 ghost use Rattle.numbers.specs.Limits.{largest};
-ghost use Rattle.rules.specs.Prop.{size};
+ghost use Rattle.rules.specs.Prop.{«put-at», «bind-at», size};
 ghost use Rattle.rules.specs.Context.{settle};
 ghost use Rattle.layout.specs.File.{atomic, «prop-kind»};
 ghost use Rattle.prop.specs.Room.{«room-form», roomAt, Arena};
-ghost use Rattle.arena.specs.Copy.{«most-records», names, changed, ChangeIn, ChangedIs, AtomIs, MoreIs, CopiedIs};
+ghost use Rattle.prop.specs.Atom.{becomes};
+ghost use Rattle.arena.specs.Copy.{«most-records», names, changed, ChangeIn, AtomIs, MoreIs, CopiedIs};
 use context::identifier_context::Found;
 use context::identifier_context::get_by_name;
 use numbers::Name;
@@ -16,6 +17,16 @@ use numbers::Proposition;
 use numbers::Serial;
 use numbers::record::Record;
 use numbers::record::put;
+use prop::atom::Parameter;
+use prop::atom::parameter_at;
+use prop::atom::with_parameters;
+use prop::node::AND;
+use prop::node::ATOM;
+use prop::node::EXISTS;
+use prop::node::FALSE;
+use prop::node::FOR_ALL;
+use prop::node::IMPL;
+use prop::node::TRUE;
 use prop::node::node_at;
 
 // Put an identifier for a quantifier's parameters, bind one by a quantifier around it, or put identifiers for free names: those of their
@@ -32,82 +43,77 @@ pub struct Copied {
     pub count: u16,
 }
 
-pub struct Parameter {
-    pub kind: u16,
-    pub value: u16,
+// An identifier for the parameters of a quantifier that stands d quantifiers above.
+fn put_at(p: Parameter, d: u16, s: Serial) -> Parameter
+    ensures { λ q. ⌜ q ≡ becomes («put-at» (s .0) d) p ⌝ }
+{
+    match p {
+        Parameter::Free(_) => p,
+        Parameter::Identifier(_) => p,
+        Parameter::Bound(k) => { if k == d { Parameter::Identifier(s) } else { p } }
+        Parameter::Unused => p,
+    }
+}
+
+// The reverse: an identifier is bound by that quantifier.
+fn bind_at(p: Parameter, d: u16, s: Serial) -> Parameter
+    ensures { λ q. ⌜ q ≡ becomes («bind-at» (s .0) d) p ⌝ }
+{
+    match p {
+        Parameter::Free(_) => p,
+        Parameter::Identifier(i) => { if i.0 == s.0 { Parameter::Bound(d) } else { p } }
+        Parameter::Bound(_) => p,
+        Parameter::Unused => p,
+    }
 }
 
 // A free name becomes its identifier. (Where all names are known there is no serial, and each name has an entry.)
-fn settle(kind: u16, x: u16, work: &[u8], len: usize) -> Parameter
-    requires { ⌜ kind < 3 ⌝ }
+fn settle(p: Parameter, work: &[u8], len: usize) -> Parameter
     requires { ⌜ 8 * len ≤ length (now work) ⌝ }
-    ensures { λ r. ⌜ ChangedIs true (settle (names (now (work .entry)) len)) kind x (r .kind) (r .value) ⌝ }
+    ensures { λ q. ⌜ q ≡ becomes (settle (names (now (work .entry)) len)) p ⌝ }
 {
-    match kind {
-        0 => match get_by_name(work, len, Name(x)) {
-            Found::Held(e) => Parameter {
-                kind: 1,
-                value: e.serial.0,
-            },
-            Found::Nothing => Parameter { kind: 0, value: x },
+    match p {
+        Parameter::Free(x) => match get_by_name(work, len, x) {
+            Found::Held(e) => {
+                let i = e.serial;
+                Parameter::Identifier(i)
+            }
+            Found::Nothing => p,
         },
-        1 => Parameter { kind: 0, value: x },
-        _ => Parameter { kind, value: x },
+        Parameter::Identifier(i) => Parameter::Free(Name(i.0)),
+        Parameter::Bound(_) => p,
+        Parameter::Unused => p,
     }
 }
 
-// One parameter, below d quantifiers. An unused one stays.
-fn change_parameter(used: bool, kind: u16, x: u16, d: u16, change: Change, work: &[u8]) -> Parameter
-    requires { ⌜ kind < 3 ⌝ }
+// One parameter, below d quantifiers.
+fn change_parameter(p: Parameter, d: u16, change: Change, work: &[u8]) -> Parameter
     requires { ⌜ ChangeIn (now work) change ⌝ }
-    ensures { λ r. ⌜ ChangedIs used (changed (now (work .entry)) change d) kind x (r .kind) (r .value) ⌝ }
+    ensures { λ q. ⌜ q ≡ becomes (changed (now (work .entry)) change d) p ⌝ }
 {
-    if !used {
-        return Parameter { kind, value: x };
-    }
     match change {
-        Change::Put(s) => {
-            if (kind == 2) & (x == d) {
-                Parameter {
-                    kind: 1,
-                    value: s.0,
-                }
-            } else {
-                Parameter { kind, value: x }
-            }
-        }
-        Change::Bind(s) => {
-            if (kind == 1) & (x == s.0) {
-                Parameter { kind: 2, value: d }
-            } else {
-                Parameter { kind, value: x }
-            }
-        }
-        Change::Resolve(len) => settle(kind, x, work, len),
+        Change::Put(s) => put_at(p, d, s),
+        Change::Bind(s) => bind_at(p, d, s),
+        Change::Resolve(len) => settle(p, work, len),
     }
 }
 
-// An atom's record with its parameters changed.
+// An atom's record with its parameters changed. (Most have one or none.)
 fn change_atom(r: Record, d: u16, change: Change, work: &[u8]) -> Record
     requires { ⌜ «prop-kind» (r .kind) ≡ atomic ⌝ }
     requires { ⌜ «room-form» r ≡ true ⌝ }
     requires { ⌜ ChangeIn (now work) change ⌝ }
     ensures { λ q. ⌜ AtomIs (changed (now (work .entry)) change d) r q ⌝ }
 {
-    let n = r.count;
-    let b = r.b;
-    let p = change_parameter(0 < n, b % 4, r.parameters[0], d, change, work);
-    let q = change_parameter(1 < n, b / 4 % 4, r.parameters[1], d, change, work);
-    let s = change_parameter(2 < n, b / 16 % 4, r.parameters[2], d, change, work);
-    let t = change_parameter(3 < n, b / 64 % 4, r.parameters[3], d, change, work);
-    Record {
-        kind: r.kind,
-        count: r.count,
-        a: r.a,
-        b: p.kind + 4 * q.kind + 16 * s.kind + 64 * t.kind,
-        c: 0,
-        parameters: [p.value, q.value, s.value, t.value],
+    let p = change_parameter(parameter_at(r, 0), d, change, work);
+    if r.count <= 1 {
+        let none = Parameter::Unused;
+        return with_parameters(r, p, none, none, none);
     }
+    let q = change_parameter(parameter_at(r, 1), d, change, work);
+    let s = change_parameter(parameter_at(r, 2), d, change, work);
+    let t = change_parameter(parameter_at(r, 3), d, change, work);
+    with_parameters(r, p, q, s, t)
 }
 
 // One record more.
@@ -145,8 +151,8 @@ pub fn copy(
     let r = node_at(props, count, n);
     let kind = r.kind;
     match kind {
-        0..=1 => one_more(props, count, r),
-        2..=4 => {
+        TRUE..=FALSE => one_more(props, count, r),
+        AND..=IMPL => {
             let first = copy(props, count, Proposition(r.a), d, change, work);
             let second = copy(props, first.count, Proposition(r.b), d, change, work);
             one_more(
@@ -162,7 +168,7 @@ pub fn copy(
                 },
             )
         }
-        5..=6 => {
+        FOR_ALL..=EXISTS => {
             let body = copy(props, count, Proposition(r.c), d + 1, change, work);
             one_more(
                 props,
@@ -177,7 +183,7 @@ pub fn copy(
                 },
             )
         }
-        7..=255 => {
+        ATOM..=255 => {
             let q = change_atom(r, d, change, work);
             one_more(props, count, q)
         }

@@ -6,36 +6,37 @@ ghost use Rattle.layout.specs.File.{props as «prop-count»};
 ghost use Rattle.table.specs.Tests.{«test-room»};
 ghost use Rattle.table.specs.Nearest.{Above};
 ghost use Rattle.table.specs.Passing.{Counted, Formed, WellLinked};
-ghost use Rattle.arena.specs.Load.{ParameterIs, «loaded-param», «loaded-atom», loadedRecord, Loaded};
-use super::copy::Parameter;
+ghost use Rattle.prop.specs.Atom.{becomes};
+ghost use Rattle.arena.specs.Load.{named, «loaded-atom», loadedRecord, Loaded};
 use layout::header::proposition_count;
 use layout::record::proposition_at;
-use numbers::Name;
 use numbers::Proposition;
 use numbers::record::Record;
 use numbers::record::put;
+use prop::atom::Parameter;
+use prop::atom::parameter_at;
+use prop::atom::with_parameters;
+use prop::node::ATOM;
 use table::above::Settled;
 use table::above::find_above;
 use table::above::settle;
 
-const ATOM: u8 = 7;
-
-// A parameter of record n: a free name, or bound. One that is not used is zero.
-fn load_parameter(file: &[u8], work: &[u8], n: Proposition, used: bool, x: u16) -> Parameter
+// A parameter of record n: a name is free, or bound. (A table has no others.)
+fn load_parameter(file: &[u8], work: &[u8], n: Proposition, p: Parameter) -> Parameter
     requires { ⌜ Counted (now file) ⌝ }
     requires { ⌜ WellLinked (now file) ⌝ }
     requires { ⌜ Above (now file) (now work) ⌝ }
     requires { ⌜ (n .0 < «prop-count» (now file)) × («test-room» ≤ length (now work)) ⌝ }
-    ensures { λ p. ⌜ ParameterIs («loaded-param» (now (file .entry)) (n .0) used x) (p .kind) (p .value) ⌝ }
+    ensures { λ q. ⌜ q ≡ becomes (named (now (file .entry)) (n .0)) p ⌝ }
 {
-    if used {
-        let found = settle(file, work, n, Name(x));
-        match found {
-            Settled::Free => Parameter { kind: 0, value: x },
-            Settled::Bound(k) => Parameter { kind: 2, value: k },
-        }
-    } else {
-        Parameter { kind: 0, value: 0 }
+    match p {
+        Parameter::Free(x) => match settle(file, work, n, x) {
+            Settled::Free => p,
+            Settled::Bound(k) => Parameter::Bound(k),
+        },
+        Parameter::Identifier(_) => p,
+        Parameter::Bound(_) => p,
+        Parameter::Unused => p,
     }
 }
 
@@ -47,19 +48,11 @@ fn load_atom(file: &[u8], work: &[u8], n: Proposition, r: Record) -> Record
     requires { ⌜ (n .0 < «prop-count» (now file)) × («test-room» ≤ length (now work)) ⌝ }
     ensures { λ q. ⌜ q ≡ «loaded-atom» (now (file .entry)) (n .0) r ⌝ }
 {
-    let k = r.count;
-    let p = load_parameter(file, work, n, 0 < k, r.parameters[0]);
-    let q = load_parameter(file, work, n, 1 < k, r.parameters[1]);
-    let s = load_parameter(file, work, n, 2 < k, r.parameters[2]);
-    let t = load_parameter(file, work, n, 3 < k, r.parameters[3]);
-    Record {
-        kind: r.kind,
-        count: r.count,
-        a: r.a,
-        b: p.kind + 4 * q.kind + 16 * s.kind + 64 * t.kind,
-        c: r.c,
-        parameters: [p.value, q.value, s.value, t.value],
-    }
+    let p = load_parameter(file, work, n, parameter_at(r, 0));
+    let q = load_parameter(file, work, n, parameter_at(r, 1));
+    let s = load_parameter(file, work, n, parameter_at(r, 2));
+    let t = load_parameter(file, work, n, parameter_at(r, 3));
+    with_parameters(r, p, q, s, t)
 }
 
 // Record n, as the room holds it.

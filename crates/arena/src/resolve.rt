@@ -5,17 +5,26 @@ ghost use Prim.Native.Nat.{ℕ, _+_, _*_, _<_, _≤_};
 ghost use lib.ListN.{length};
 ghost use Rattle.rules.specs.Prop.{«each-param»};
 ghost use Rattle.rules.specs.Context.{known};
-ghost use Rattle.prop.specs.Room.{param, params, roomAt, TypeIn, Arena};
+ghost use Rattle.prop.specs.Room.{params, roomAt, TypeIn, Arena};
+ghost use Rattle.prop.specs.Atom.{passes};
 ghost use Rattle.arena.specs.Copy.{«most-records», names};
 ghost use Rattle.arena.specs.Resolve.{«all-known», ResolvedIs};
 use super::copy::Change;
 use super::copy::copy;
 use context::identifier_context::Found;
 use context::identifier_context::get_by_name;
-use numbers::Name;
 use numbers::Proposition;
 use numbers::Sort;
 use numbers::record::Record;
+use prop::atom::Parameter;
+use prop::atom::parameter_at;
+use prop::node::AND;
+use prop::node::ATOM;
+use prop::node::EXISTS;
+use prop::node::FALSE;
+use prop::node::FOR_ALL;
+use prop::node::IMPL;
+use prop::node::TRUE;
 use prop::node::node_at;
 use prop::size::Nodes;
 use prop::size::nodes_of;
@@ -28,17 +37,18 @@ pub enum Resolved {
 }
 
 // A free name is known if it has an entry. (A serial counts as an unknown name.)
-fn is_known(kind: u16, x: u16, work: &[u8], len: usize) -> bool
+fn is_known(p: Parameter, work: &[u8], len: usize) -> bool
     requires { ⌜ 8 * len ≤ length (now work) ⌝ }
-    ensures { λ r. ⌜ r ≡ known (names (now (work .entry)) len) (param kind x) ⌝ }
+    ensures { λ r. ⌜ r ≡ passes (known (names (now (work .entry)) len)) p ⌝ }
 {
-    match kind {
-        0 => match get_by_name(work, len, Name(x)) {
+    match p {
+        Parameter::Free(x) => match get_by_name(work, len, x) {
             Found::Held(_) => true,
             Found::Nothing => false,
         },
-        1 => false,
-        _ => true,
+        Parameter::Identifier(_) => false,
+        Parameter::Bound(_) => true,
+        Parameter::Unused => true,
     }
 }
 
@@ -46,12 +56,9 @@ fn atom_known(r: Record, work: &[u8], len: usize) -> bool
     requires { ⌜ 8 * len ≤ length (now work) ⌝ }
     ensures { λ ok. ⌜ ok ≡ «each-param» (known (names (now (work .entry)) len)) (params r) ⌝ }
 {
-    let n = r.count;
-    let b = r.b;
-    (!(0 < n) | is_known(b % 4, r.parameters[0], work, len))
-        & ((!(1 < n) | is_known(b / 4 % 4, r.parameters[1], work, len))
-            & ((!(2 < n) | is_known(b / 16 % 4, r.parameters[2], work, len))
-                & (!(3 < n) | is_known(b / 64 % 4, r.parameters[3], work, len))))
+    is_known(parameter_at(r, 0), work, len)
+        & (is_known(parameter_at(r, 1), work, len)
+            & (is_known(parameter_at(r, 2), work, len) & is_known(parameter_at(r, 3), work, len)))
 }
 
 // All names in a proposition are known.
@@ -64,16 +71,16 @@ fn all_known(props: &[u8], count: u16, n: Proposition, work: &[u8], len: usize) 
     let r = node_at(props, count, n);
     let kind = r.kind;
     match kind {
-        0..=1 => true,
-        2..=4 => {
+        TRUE..=FALSE => true,
+        AND..=IMPL => {
             if all_known(props, count, Proposition(r.a), work, len) {
                 all_known(props, count, Proposition(r.b), work, len)
             } else {
                 false
             }
         }
-        5..=6 => all_known(props, count, Proposition(r.c), work, len),
-        7..=255 => atom_known(r, work, len),
+        FOR_ALL..=EXISTS => all_known(props, count, Proposition(r.c), work, len),
+        ATOM..=255 => atom_known(r, work, len),
     }
 }
 

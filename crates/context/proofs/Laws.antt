@@ -18,14 +18,7 @@ use Rattle.rules.specs.Context.{Ctx, find}
 use Rattle.context.specs.declared.identifier_context.Entry.{Entry}
 use Rattle.context.specs.declared.identifier_context.Found.{Found}
 use Rattle.context.specs.declared.identifier_context.Found.the-variants.{Held, Nothing}
-use Rattle.context.specs.Context.{most-entries, context-room, tagOf, numberOf, sortOf, entryAt, SameEntries, Inserted, stands, ctxAt, found, Among, Latest}
-
--- ROOM. A context within the limit has its bytes
-pub room-read : (w : List ℕ) (n : ℕ) → n ≤ most-entries → context-room ≤ length w → 8 * n ≤ length w
-room-read w n h r = omega arith
-
-pub room-insert : (w : List ℕ) (n : ℕ) → n < most-entries → context-room ≤ length w → 8 * n + 8 ≤ length w
-room-insert w n h r = omega arith
+use Rattle.context.specs.Context.{tagOf, numberOf, sortOf, entryAt, SameEntries, Inserted, stands, ctxAt, found, Among, Latest}
 
 -- TYPES as two numbers, and back
 pub sort-data : (t n : ℕ) → (t ≡ 0 → ⊥) → Datatype (record { 0 = n }) ≡ sortOf t n

@@ -1,4 +1,5 @@
--- Document 01, "The rules" (lookup begins with the entry that came last) and "The shape of each place" (an entry holds its type): the entries that bytes hold, and the context of the rules that they stand for.
+-- Document 01, "The rules" (lookup begins with the entry that came last) and "The shape of each place" (an entry holds its type): the
+-- entries that bytes hold, and the context of the rules that they stand for.
 -- Assumes nothing.
 use mathlib.Core.Path.{_≡_}
 use mathlib.Core.List.{List, [], _∷_}

@@ -30,7 +30,7 @@ pub const LIMIT: usize = 2 * (Term::LIMIT as usize);
 pub const ROOM: usize = 8 * LIMIT;
 
 // A type is kept as two numbers: a tag, 0 for a proposition and 1 for a datatype, and the number itself.
-fn sort_of(tag: u16, number: u16) -> Sort
+pub fn sort_of(tag: u16, number: u16) -> Sort
     ensures { λ r. ⌜ r ≡ sortOf tag number ⌝ }
 {
     match tag {
@@ -64,8 +64,8 @@ pub fn entry_at(work: &[u8], i: usize) -> Entry
 {
     let at = 8 * i;
     Entry {
-        name: Name(word(work, at)),
-        serial: Serial(word(work, at + 2)),
+        name: Name::from_bytes(work, at),
+        serial: Serial::from_bytes(work, at + 2),
         typ: sort_of(word(work, at + 4), word(work, at + 6)),
     }
 }

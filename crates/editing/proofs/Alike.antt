@@ -13,20 +13,17 @@ use Rattle.numbers.specs.declared.record.Record.{Record}
 use Rattle.numbers.specs.Records.{wordAt, recordAt}
 use Rattle.layout.specs.File.{props, terms, propRecord}
 use Rattle.rules.specs.Term.{nodes}
-use Rattle.table.specs.Reading.{binders, propAt, termAt}
+use Rattle.table.specs.Reading.{propAt, termAt}
 use Rattle.table.specs.Passing.{Directed}
 use Rattle.table.proofs.Counting.{nodes-root}
 use Rattle.table.proofs.Passing.{good-passed}
 use Rattle.editing.specs.Edited.{all-props, all-terms, termBytes, Bytes, Fillable, Joined, Edited}
 use Rattle.editing.proofs.Joins.{props-joined, terms-joined, prop-cases, term-cases}
-use Rattle.editing.proofs.Propositions.{binders-kept, prop-kept}
+use Rattle.editing.proofs.Propositions.{prop-kept}
 use Rattle.editing.proofs.Edits.{waiting-term, filling-nodes}
 
 -- THE SAME PROPOSITIONS
 module _ (l l′ : List ℕ) (d : Directed l) (count : props l′ ≡ props l) (same : (n : ℕ) → n < props l → propRecord l′ n ≡ propRecord l n) where
-  pub binders-alike : (n : ℕ) → n < props l → binders l′ n ≡ binders l n
-  binders-alike = binders-kept l l′ d (omega arith) same (λ n k p x y. absurd (omega arith))
-
   pub props-alike : (n : ℕ) → n < props l → propAt l′ n ≡ propAt l n
   props-alike = prop-kept l l′ d (omega arith) same (λ n k p x y. absurd (omega arith))
 
@@ -37,9 +34,6 @@ module _ {old f : List ℕ} {q : ℕ} {r r′ : Record} {e j : List ℕ} (E : Jo
 
   pub joined-records : (n : ℕ) → n < props e → propRecord j n ≡ propRecord e n
   joined-records = prop-cases E (λ n s. propRecord j n ≡ s) (J .old-prop) (J .added-prop)
-
-  pub joined-binders : Directed e → (n : ℕ) → n < props e → binders j n ≡ binders e n
-  joined-binders d = binders-alike e j d (joined-counts .0) joined-records
 
   pub joined-props : Directed e → (n : ℕ) → n < props e → propAt j n ≡ propAt e n
   joined-props d = props-alike e j d (joined-counts .0) joined-records

@@ -26,7 +26,8 @@ use Rattle.table.specs.declared.Purpose.the-variants.{Check, Filling}
 use Rattle.table.specs.declared.Verdict.the-variants.{Passes, Refused}
 use Rattle.table.specs.Links.{badly-linked-prop, badly-linked-term}
 use Rattle.table.specs.Reading.{propAt, termAt}
-use Rattle.table.specs.Tests.{tests, counts, or-term, formless, badly-linked, oversized, open-goal, unless, accused}
+use Rattle.table.specs.Tests.{counts, or-term, formless, badly-linked, oversized, open-goal, unless, accused}
+use Rattle.table.specs.Tests.{from-goal, from-sizes, from-links, from-expected, from-forms, from-counts, tests}
 use Rattle.table.specs.Passing.{Counted, Formed, Linked, Directed, Good}
 use Rattle.table.proofs.Headers.{counted}
 use Rattle.table.proofs.Firsts.{first-nobody}
@@ -34,9 +35,8 @@ use Rattle.table.proofs.Links.{directed, expected-in}
 use Rattle.table.proofs.Reading.{place-at}
 use Rattle.table.proofs.Counting.{nodes-root, gaps-one}
 use Rattle.table.proofs.Passing.{Passed, good-passed, good-closed}
-use Rattle.table.proofs.Verdicts.{refuse-3, refuse-6, last-test}
 use Rattle.table.proofs.Fills.{goal-sorry}
-use Rattle.editing.specs.Edited.{all-props, all-terms, moved-term, termBytes, Fillable, Joined, Edited, edited-tests}
+use Rattle.editing.specs.Edited.{all-props, all-terms, moved-term, termBytes, Fillable, Joined, Edited, edited-from-sizes, edited-tests}
 use Rattle.editing.proofs.Joins.{Sits, old-sits, added-sits, terms-joined, expected-joined, joined-counted, joined-formed, joined-directed}
 use Rattle.editing.proofs.Heads.{header-joined}
 use Rattle.editing.proofs.Propositions.{prop-same}
@@ -151,44 +151,41 @@ module _ {old f : List ℕ} {q : ℕ} (h : Fillable old f q) where
         ap (λ (n : ℕ). closed (propAt e n)) (expected-joined E) ∙ ap closed (whole-prop E (expected old) (expected-in (o .linked))) ∙ good-closed old (h .old-good)
 
     -- so tests 3 and 6 settle the rest
+    edited-uncounted : counts e ≡ false → Refused 3 0 ≡ tests Check e
+    unfolding tests from-counts unless
+    edited-uncounted c = rw (header-joined E (o .marked), c)
+
+    edited-counted : counts e ≡ true → tests Check e ≡ from-sizes Check e
+    unfolding tests from-counts from-forms from-expected from-links unless accused
+    edited-counted c =
+        rw (
+          header-joined E (o .marked),
+          c,
+          none-formless e (whole-formed E replaces),
+          edited-in-order .goal,
+          none-badly-linked e edited-in-order,
+        )
+
+    edited-large : (i : ℕ) → oversized e ≡ At i → Refused 6 i ≡ from-sizes Check e
+    unfolding from-sizes accused
+    edited-large i big = rw big
+
+    edited-small : oversized e ≡ Nobody → from-sizes Check e ≡ Passes
+    unfolding from-sizes from-goal open-goal accused
+    edited-small small = rw (small, edited-closed)
+
     pub edited-passes : counts e ≡ true → oversized e ≡ Nobody → Good Check e
-    unfolding open-goal
-    edited-passes c small =
-        sym (last-test Check e (header-joined E (o .marked)) c (none-formless e (whole-formed E replaces)) (edited-in-order .goal) (none-badly-linked e edited-in-order) small)
-        ∙ rw edited-closed
+    edited-passes c small = edited-counted c ∙ edited-small small
 
     -- and its tests are those of a check
     pub edited-verdict : edited-tests e ≡ tests Check e
-    unfolding edited-tests unless accused
+    unfolding edited-tests edited-from-sizes unless accused
     edited-verdict = at (counts e) refl (oversized e) refl
       where
         at : (b : Bool) → counts e ≡ b → (g : Guilty) → oversized e ≡ g → cond b (accused 6 g Passes) (Refused 3 0) ≡ tests Check e
         at true c Nobody small = sym (edited-passes c small)
-        at true c (At i) big =
-            refuse-6 Check e (header-joined E (o .marked)) c (none-formless e (whole-formed E replaces)) (edited-in-order .goal) (none-badly-linked e edited-in-order) i big
-        at false c g small = refuse-3 Check e (header-joined E (o .marked)) c
+        at true c (At i) big = edited-large i big ∙ sym (edited-counted c)
+        at false c g small = edited-uncounted c
 
     pub edited-good : edited-tests e ≡ Passes → Good Check e
     edited-good z = sym edited-verdict ∙ z
-
--- THE TESTS as the code runs them
-module _ (e : List ℕ) (ok : Bool) (told : ok ≡ counts e) where
-  pub refused-3 : not ok ≡ true → Refused 3 0 ≡ edited-tests e
-  unfolding edited-tests unless
-  refused-3 z = rw (sym told ∙ not-true ok z)
-
-  module _ (z : not ok ≡ false) where
-    fine : counts e ≡ true
-    fine = sym told ∙ not-false ok z
-
-    pub tested-counted : Counted e
-    tested-counted = counted e fine
-
-    module _ (g : Guilty) (found : g ≡ oversized e) where
-      pub refused-6 : (i : ℕ) → g ≡ At i → Refused 6 i ≡ edited-tests e
-      unfolding edited-tests unless accused
-      refused-6 i x = rw (fine, sym found ∙ x)
-
-      pub passes : g ≡ Nobody → Passes ≡ edited-tests e
-      unfolding edited-tests unless accused
-      passes x = rw (fine, sym found ∙ x)

@@ -10,7 +10,7 @@ use lib.Dec.{eqb, ltb}
 use Rattle.numbers.specs.declared.record.Record.{Record}
 use Rattle.numbers.specs.Records.{recordAt}
 use Rattle.numbers.specs.Limits.{most-propositions, most-terms}
-use Rattle.layout.specs.File.{props, terms, propRecord, termRecord, prop-kind, Sorry, kind-of}
+use Rattle.layout.specs.File.{props, terms, file-size, propRecord, termRecord, prop-kind, Sorry, kind-of}
 use Rattle.layout.specs.Form.{prop-shape, term-shape}
 use Rattle.table.specs.declared.Purpose.the-variants.{Check, Filling}
 use Rattle.table.specs.declared.Verdict.{Verdict}
@@ -66,11 +66,11 @@ abbrev pub all-terms : (old f : List ℕ) → ℕ
 all-terms old f = terms old + terms f - 1
 
 abbrev pub edited-size : (old f : List ℕ) → ℕ
-edited-size old f = 16 + (16 * all-props old f + 16 * all-terms old f)
+edited-size old f = file-size (all-props old f) (all-terms old f)
 
 -- the longest there can be, of a table and a filling that keep the limits
 abbrev pub edited-bytes : ℕ
-edited-bytes = 16 * (1 + 2 * most-propositions + (2 * most-terms - 1))
+edited-bytes = file-size (2 * most-propositions) (2 * most-terms - 1)
 
 abbrev pub recounted : (p t : ℕ) → Record → Record
 recounted p t r =
@@ -98,8 +98,8 @@ pub record Fillable (old f : List ℕ) (q : ℕ) : Type 0 where
 abbrev pub Bytes : List ℕ → Type 0
 Bytes l = (i : ℕ) → getD l i 0 < 256
 
--- e IS THE OLD TABLE JOINED WITH THE FILLING f, but with the record r for its term q. For a term q of the old table this settles every byte of a list e of bytes: the
--- header is record 0, and each record after it is one of those named here
+-- e IS THE OLD TABLE JOINED WITH THE FILLING f, but with the record r for its term q. For a term q of the old table this settles
+-- every byte of a list e of bytes: the header is record 0, and each record after it is one of those named here
 pub record Joined (old f : List ℕ) (q : ℕ) (r : Record) (e : List ℕ) : Type 0 where
   pub size : length e ≡ edited-size old f
   pub head : recordAt e 0 ≡ recounted (all-props old f) (all-terms old f) (recordAt old 0)
@@ -113,6 +113,9 @@ pub record Joined (old f : List ℕ) (q : ℕ) (r : Record) (e : List ℕ) : Typ
 abbrev pub Edited : (old f : List ℕ) → ℕ → List ℕ → Type 0
 Edited old f q e = Joined old f q (moved-term (props old) (terms old) (termBytes f 0)) e
 
--- ITS TESTS: 3, then 6
+-- ITS TESTS: 3, then 6, from the last one up as the table's own
+unfoldable pub edited-from-sizes : List ℕ → Verdict
+edited-from-sizes e = accused 6 (oversized e) Passes
+
 unfoldable pub edited-tests : List ℕ → Verdict
-edited-tests e = unless (counts e) (Refused 3 0) (accused 6 (oversized e) Passes)
+edited-tests e = unless (counts e) (Refused 3 0) (edited-from-sizes e)

@@ -1,5 +1,6 @@
--- What the edited table stands for: the old script with the filling in the Sorry's place. Of the filling nothing changes but its record numbers, so what the rules run at
--- the hole is what its author wrote. Proved in proofs/Renumbered.antt. Assumes nothing.
+-- What the edited table stands for: the old script with the filling in the Sorry's place. Of the filling nothing changes but its
+-- record numbers, so what the rules run at the hole is what its author wrote. Proved in proofs/Renumbered.antt.
+-- Assumes nothing.
 use mathlib.Core.Path.{_≡_}
 use mathlib.Core.Bool.{cond}
 use mathlib.Core.List.{List}

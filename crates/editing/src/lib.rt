@@ -6,11 +6,13 @@ ghost use Rattle.numbers.specs.Records.{recordAt, Put};
 ghost use Rattle.layout.specs.File.{props, terms};
 ghost use Rattle.table.specs.Passing.{Counted, Directed, WellLinked};
 ghost use Rattle.table.specs.Tests.{«test-room»};
-ghost use Rattle.editing.specs.Edited.{recounted, termBytes, «moved-term», «edited-size», «edited-bytes», Fillable, Edited, «edited-tests»};
+ghost use Rattle.editing.specs.Edited.{recounted, termBytes, «moved-term», «edited-size», «edited-bytes», Fillable, Edited};
+ghost use Rattle.editing.specs.Edited.{«edited-from-sizes», «edited-tests»};
 ghost use Rattle.editing.specs.Copied.{changed, RowMoves, Copied, Waiting};
 
 mod moving;
 
+use layout::header::file_size;
 use layout::header::proposition_count;
 use layout::header::term_count;
 use moving::Change;
@@ -38,7 +40,7 @@ pub fn edited_size(old: &[u8], filling: &[u8]) -> usize
 {
     let p = proposition_count(old) + proposition_count(filling);
     let t = term_count(old) + term_count(filling) - 1;
-    16 + (16 * (p as usize) + 16 * (t as usize))
+    file_size(p, t)
 }
 
 // Term t's record, as it is copied.
@@ -144,7 +146,7 @@ pub fn edit(old: &[u8], filling: &[u8], hole: Term, table: &mut [u8])
     put_term(table, hole, root);
 }
 
-// Tests 3 and 6. An edited table passes the others by itself.
+// Tests 3 and 6, one after the other. An edited table passes the others by itself.
 pub fn test_edited(table: &[u8], work: &mut [u8]) -> Verdict
     requires { ⌜ (16 ≤ length (now table)) × («test-room» ≤ length (now work)) ⌝ }
     requires { ⌜ WellLinked (now table) ⌝ }
@@ -153,6 +155,16 @@ pub fn test_edited(table: &[u8], work: &mut [u8]) -> Verdict
     if !well_counted(table) {
         return Verdict::Refused(3, 0);
     }
+    from_sizes(table, work)
+}
+
+// Test 6.
+fn from_sizes(table: &[u8], work: &mut [u8]) -> Verdict
+    requires { ⌜ Counted (now table) ⌝ }
+    requires { ⌜ WellLinked (now table) ⌝ }
+    requires { ⌜ «test-room» ≤ length (now work) ⌝ }
+    ensures { λ r. ⌜ r ≡ «edited-from-sizes» (now (table .entry)) ⌝ }
+{
     match oversized(table, work) {
         Guilty::At(i) => Verdict::Refused(6, i),
         Guilty::Nobody => Verdict::Passes,

@@ -8,7 +8,7 @@ use table::Verdict;
 
 fn counts(file: &[u8]) {
     if 16 <= file.len() {
-        show::text(b"props ");
+        show::text(b"propositions ");
         show::number(layout::header::proposition_count(file) as u64);
         show::text(b" terms ");
         show::number(layout::header::term_count(file) as u64);

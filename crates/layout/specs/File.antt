@@ -2,7 +2,7 @@
 -- Assumes nothing.
 use mathlib.Core.List.{List, [], _∷_}
 use mathlib.Core.Bool.{Bool, true, false}
-use Prim.Native.Nat.{ℕ, _+_}
+use Prim.Native.Nat.{ℕ, _+_, _*_}
 use lib.ListN.{getD}
 use Rattle.numbers.specs.declared.record.Record.{Record}
 use Rattle.numbers.specs.Records.{wordAt, recordAt}
@@ -18,6 +18,10 @@ terms l = wordAt l 8
 
 abbrev pub expected : List ℕ → ℕ
 expected l = wordAt l 10
+
+-- THE LENGTH of a file with p propositions and t terms: sixteen bytes for the header and for each record
+abbrev pub file-size : (p t : ℕ) → ℕ
+file-size p t = 16 + (16 * p + 16 * t)
 
 -- THE RECORDS: the header is as long as one, then the propositions, then the terms
 abbrev pub propRecord : List ℕ → ℕ → Record
@@ -61,7 +65,9 @@ pub data Kind : Type 0 where
   Ident Pair ProjectFst ProjectSnd Function Application LetIn OrLeft OrRight Case Abort TheUnit TypeAscription Sorry Strange : Kind
 
 unfoldable pub kinds : List Kind
-kinds = Ident ∷ Pair ∷ ProjectFst ∷ ProjectSnd ∷ Function ∷ Application ∷ LetIn ∷ OrLeft ∷ OrRight ∷ Case ∷ Abort ∷ TheUnit ∷ TypeAscription ∷ Sorry ∷ []
+kinds =
+    Ident ∷ Pair ∷ ProjectFst ∷ ProjectSnd ∷ Function ∷ Application ∷ LetIn
+    ∷ OrLeft ∷ OrRight ∷ Case ∷ Abort ∷ TheUnit ∷ TypeAscription ∷ Sorry ∷ []
 
 unfoldable pub kind-of : ℕ → Kind
 unfolding kinds

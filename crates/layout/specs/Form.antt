@@ -1,7 +1,6 @@
 -- Document 01, refusal 4: a record's kind, tag and parameter count are known ones, and every field that the kind does not use is zero.
 -- Assumes nothing.
-use mathlib.Core.Bool.{Bool, true, false, _&&_, _||_}
-use mathlib.Core.List.{List}
+use mathlib.Core.Bool.{Bool, _&&_, _||_}
 use Prim.Native.Nat.{ℕ}
 use lib.ListN.{getD}
 use lib.Dec.{eqb, leb, ltb}
@@ -9,7 +8,9 @@ use Rattle.numbers.specs.declared.record.Record.{Record}
 use Rattle.layout.specs.declared.record.TermRecord.{TermRecord}
 use Rattle.layout.specs.declared.form.PropShape.{PropShape}
 use Rattle.layout.specs.declared.form.TermShape.{TermShape}
-use Rattle.layout.specs.File.{PropKind, constant, linked, quantified, atomic, strange, prop-kind, Kind, Ident, Pair, ProjectFst, ProjectSnd, Function, Application, LetIn, OrLeft, OrRight, Case, Abort, TheUnit, TypeAscription, Sorry, Strange, kind-of}
+use Rattle.layout.specs.File.{PropKind, constant, linked, quantified, atomic, strange, prop-kind}
+use Rattle.layout.specs.File.{Kind, Ident, Pair, ProjectFst, ProjectSnd, Function, Application, LetIn}
+use Rattle.layout.specs.File.{OrLeft, OrRight, Case, Abort, TheUnit, TypeAscription, Sorry, Strange, kind-of}
 
 -- a field that is not used is zero
 abbrev pub fits : Bool → ℕ → Bool
@@ -64,7 +65,8 @@ abbrev pub in-term-shape : TermShape → TermRecord → Bool
 in-term-shape s r =
     (leb (s .least) (r .tag) && (leb (r .tag) (s .most) && fits (ltb 0 (r .tag)) (r .typ)))
     && ((fits (ltb 0 (s .names)) (r .name1 .0) && fits (ltb 1 (s .names)) (r .name2 .0))
-    && (fits (ltb 0 (s .children)) (r .child1 .0) && (fits (ltb 1 (s .children)) (r .child2 .0) && (fits (ltb 2 (s .children)) (r .child3 .0) && eqb (r .zero) 0))))
+    && (fits (ltb 0 (s .children)) (r .child1 .0)
+    && (fits (ltb 1 (s .children)) (r .child2 .0) && (fits (ltb 2 (s .children)) (r .child3 .0) && eqb (r .zero) 0))))
 
 unfoldable pub term-form : TermRecord → Bool
 term-form r = in-term-shape (term-shape (kind-of (r .kind))) r

@@ -1,10 +1,10 @@
 -- Rooms filled with zeros from the front. Assumes nothing.
-use mathlib.Core.Path.{_≡_, refl, ap, sym, subst, _∙_}
+use mathlib.Core.Path.{_≡_, refl, ap, _∙_}
 use mathlib.Core.List.{List, [], _∷_, _++_}
-use Prim.Native.Nat.{ℕ, zero, suc, min, _≤_, _+_}
+use Prim.Native.Nat.{ℕ, min, _≤_, _+_}
 use native.Mathlib.Omega.{arith}
-use native.Mathlib.Nat.{le-antisymm, min-eq-left, min-eq-right, le-of-lt}
-use lib.ListN.{length, drop, replicate, drop-of-length-le, length-replicate}
+use native.Mathlib.Nat.{min-eq-left, min-eq-right}
+use lib.ListN.{length, drop, replicate, drop-of-length-le}
 use Rattle.numbers.specs.Rooms.{cleared}
 
 append-nil : (l : List ℕ) → l ++ [] ≡ l

@@ -1,6 +1,6 @@
 -- The limits of document 01's file format, by the names that the number types' constants have, and the largest number of two bytes.
 -- Assumes nothing.
-use Prim.Native.Nat.{ℕ, _*_}
+use Prim.Native.Nat.{ℕ}
 
 -- propositions and terms of a table
 abbrev pub most-propositions : ℕ

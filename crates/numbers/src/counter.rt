@@ -13,12 +13,6 @@ pub struct Counted {
 }
 
 impl Counter {
-    pub fn new() -> Self
-        ensures { λ r. ⌜ r .count ≡ 0 ⌝ }
-    {
-        Self { count: 0 }
-    }
-
     pub fn next_value(self) -> Counted
         requires { ⌜ self .count < largest ⌝ }
         ensures { λ r. ⌜ (r .value ≡ self .count) × (r .counter .count ≡ self .count + 1) ⌝ }

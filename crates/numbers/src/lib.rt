@@ -1,11 +1,16 @@
 // Floor 1: the four kinds of number, fresh serials, and rooms of bytes read and written as 16-byte records.
 ghost use mathlib.Core.Path.{_≡_};
-ghost use Prim.Native.Nat.{_+_, _*_};
+ghost use Prim.Native.Nat.{_+_, _<_};
+ghost use lib.ListN.{length};
+ghost use Rattle.numbers.specs.Records.{wordAt};
 
 pub mod counter;
 pub mod identifier;
 pub mod record;
+pub mod refusal;
 pub mod room;
+
+use record::word;
 
 // What a student calls something: a variable, an object, a predicate or a datatype. Every 16-bit number is a name.
 pub struct Name(pub u16);
@@ -20,10 +25,12 @@ pub struct Proposition(pub u16);
 pub struct Term(pub u16);
 
 impl Name {
-    pub fn from_bytes(low: u8, high: u8) -> Self
-        ensures { λ r. ⌜ r .0 ≡ low + 256 * high ⌝ }
+    // The number that stands at two bytes of b, as on each of these types.
+    pub fn from_bytes(b: &[u8], at: usize) -> Self
+        requires { ⌜ at + 1 < length (now b) ⌝ }
+        ensures { λ r. ⌜ r .0 ≡ wordAt (now (b .entry)) at ⌝ }
     {
-        Name(low as u16 + 256 * (high as u16))
+        Name(word(b, at))
     }
 }
 
@@ -33,10 +40,11 @@ impl Serial {
     // No term makes more than two.
     pub const LIMIT: u16 = 2 * Term::LIMIT;
 
-    pub fn from_bytes(low: u8, high: u8) -> Self
-        ensures { λ r. ⌜ r .0 ≡ low + 256 * high ⌝ }
+    pub fn from_bytes(b: &[u8], at: usize) -> Self
+        requires { ⌜ at + 1 < length (now b) ⌝ }
+        ensures { λ r. ⌜ r .0 ≡ wordAt (now (b .entry)) at ⌝ }
     {
-        Serial(low as u16 + 256 * (high as u16))
+        Serial(word(b, at))
     }
 }
 
@@ -50,10 +58,11 @@ impl Proposition {
 
     pub const HEIGHT: u8 = 32;
 
-    pub fn from_bytes(low: u8, high: u8) -> Self
-        ensures { λ r. ⌜ r .0 ≡ low + 256 * high ⌝ }
+    pub fn from_bytes(b: &[u8], at: usize) -> Self
+        requires { ⌜ at + 1 < length (now b) ⌝ }
+        ensures { λ r. ⌜ r .0 ≡ wordAt (now (b .entry)) at ⌝ }
     {
-        Proposition(low as u16 + 256 * (high as u16))
+        Proposition(word(b, at))
     }
 }
 
@@ -63,10 +72,11 @@ impl Term {
 
     pub const DEPTH: u8 = 64;
 
-    pub fn from_bytes(low: u8, high: u8) -> Self
-        ensures { λ r. ⌜ r .0 ≡ low + 256 * high ⌝ }
+    pub fn from_bytes(b: &[u8], at: usize) -> Self
+        requires { ⌜ at + 1 < length (now b) ⌝ }
+        ensures { λ r. ⌜ r .0 ≡ wordAt (now (b .entry)) at ⌝ }
     {
-        Term(low as u16 + 256 * (high as u16))
+        Term(word(b, at))
     }
 }
 

@@ -17,7 +17,7 @@ use Rattle.layout.specs.File.{PropKind, constant, linked, quantified, atomic, s
 use Rattle.prop.specs.declared.compare.Compared.{Compared}
 use Rattle.prop.specs.declared.compare.Compared.the-variants.{Equal, Alpha, Apart}
 use Rattle.prop.specs.Room.{params, node, roomAt, typeAt, TypeIn, room-form, Arena}
-use Rattle.prop.specs.Compare.{compared, compared-props, compared-types, is-equal, is-alpha, both, same-fields}
+use Rattle.prop.specs.Compare.{compared, compared-props, compared-types, is-alpha, both, same-fields}
 use Rattle.prop.proofs.Rooms.{not-strange, kind-known}
 use Rattle.prop.proofs.Heads.{link-self, quant-self, other-link, other-quant, same-number}
 use Rattle.prop.proofs.Views.{kind-constant, kind-linked, kind-quantified, kind-atomic, stands, at-linked, at-quantified}
@@ -76,21 +76,12 @@ eq-weaker (prop P) (datatype E) e = e
 eq-weaker (datatype D) (prop Q) e = e
 eq-weaker (datatype D) (datatype E) e = e
 
--- AN ANSWER taken apart: each test again
-equal-is : (e a : Bool) → is-equal (compared e a) ≡ e
-unfolding compared
-equal-is true a = refl
-equal-is false true = refl
-equal-is false false = refl
-
+-- AN ANSWER taken apart
 alpha-is : (e a : Bool) → (e ≡ true → a ≡ true) → is-alpha (compared e a) ≡ a
 unfolding compared
 alpha-is true a h = sym (h refl)
 alpha-is false true h = refl
 alpha-is false false h = refl
-
-pub equal-types : (c : Compared) (S T : Ty) → c ≡ compared-types S T → is-equal c ≡ eq S T
-equal-types c S T e = ap (λ (c : Compared). is-equal c) e ∙ equal-is (eq S T) (alpha S T)
 
 pub alpha-types : (c : Compared) (S T : Ty) → c ≡ compared-types S T → is-alpha c ≡ alpha S T
 alpha-types c S T e = ap (λ (c : Compared). is-alpha c) e ∙ alpha-is (eq S T) (alpha S T) (eq-weaker S T)

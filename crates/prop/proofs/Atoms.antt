@@ -1,6 +1,6 @@
 -- Atoms' records: what their form says, and that records that are the same field by field, and no others, have the same parameters.
 -- Assumes nothing.
-use mathlib.Core.Path.{_≡_, refl, ap, sym, subst, _∙_}
+use mathlib.Core.Path.{_≡_, refl, ap, sym, subst, subst⁻¹, _∙_}
 use mathlib.Core.Bool.{Bool, true, false, _&&_, false≢true, and-eq-true-iff}
 use mathlib.Core.List.{List, [], _∷_}
 use Prim.Native.Nat.{ℕ, zero, suc, _+_, _*_, _/_, _%_, _^_, _<_, _≤_}
@@ -9,7 +9,7 @@ use native.Mathlib.Omega.{arith}
 use lib.ListN.{length, getD, take}
 use lib.Seq.{length-take-le}
 use lib.Dec.{eqb, ltb, leb}
-use borrow.Author.Tests.{eqb-true, eq-eqb, ltb-true, ltb-false, le-ltb, leb-true}
+use borrow.Author.Tests.{eqb-true, eq-eqb, ltb-true, ltb-false, lt-ltb, le-ltb, leb-true, le-leb}
 use Rattle.numbers.specs.declared.record.Record.{Record}
 use Rattle.rules.specs.Prop.{Param, free, ser, bound, same-param, same-params}
 use Rattle.layout.specs.File.{PropKind, atomic, prop-kind}
@@ -20,6 +20,7 @@ use Rattle.prop.specs.Compare.{same-fields}
 -- THE FORM OF AN ATOM: its kinds are known ones, and from its count on kinds and parameters are zero
 pub record Atom (r : Record) : Type 0 where
   pub few : r .count ≤ 4
+  pub bare : r .c ≡ 0
   pub kinds : r .b < 4 ^ r .count
   pub known-0 : kind-0 (r .b) < 3
   pub known-1 : kind-1 (r .b) < 3
@@ -56,6 +57,7 @@ atom-of r K e =
     let t₂ = split (fits (ltb 2 n) (p 2)) (fits (ltb 3 n) (p 3)) (t₁ .1) in
     record {
       few = leb-true n 4 (split (leb 0 n) (leb n 4) (counts .0) .1);
+      bare = eqb-true (r .c) 0 (tail .0);
       kinds = ltb-true b (4 ^ n) (k₀ .0);
       known-0 = ltb-true (kind-0 b) 3 (k₁ .0);
       known-1 = ltb-true (kind-1 b) 3 (k₂ .0);
@@ -66,6 +68,34 @@ atom-of r K e =
       rest-2 = unused 2 n (p 2) (t₂ .0);
       rest-3 = unused 3 n (p 3) (t₂ .1);
     }
+
+-- and back
+pub join : (a b : Bool) → a ≡ true → b ≡ true → (a && b) ≡ true
+join a b e f = and-eq-true-iff a b .1 (e, f)
+
+used : (i n x : ℕ) → (n ≤ i → x ≡ 0) → fits (ltb i n) x ≡ true
+used i n x h = at (ltb i n) refl
+  where
+    at : (t : Bool) → ltb i n ≡ t → fits t x ≡ true
+    at true e = refl
+    at false e = eq-eqb x 0 (h (ltb-false i n e))
+
+pub form-of : (q : Record) → prop-kind (q .kind) ≡ atomic → Atom q → room-form q ≡ true
+unfolding room-form form-as kinds-fit prop-form prop-shape
+form-of q K a =
+    let b = q .b in
+    let n = q .count in
+    let p : ℕ → ℕ = λ i. getD (q .parameters) i 0 in
+    let kinds : kinds-fit q ≡ true =
+    join _ _ (lt-ltb b (4 ^ n) (a .kinds))
+    (join _ _ (lt-ltb (kind-0 b) 3 (a .known-0))
+    (join _ _ (lt-ltb (kind-1 b) 3 (a .known-1)) (join _ _ (lt-ltb (kind-2 b) 3 (a .known-2)) (lt-ltb (kind-3 b) 3 (a .known-3))))) in
+    let rest : (fits (ltb 0 n) (p 0) && (fits (ltb 1 n) (p 1) && (fits (ltb 2 n) (p 2) && fits (ltb 3 n) (p 3)))) ≡ true =
+    join _ _ (used 0 n (p 0) (a .rest-0)) (join _ _ (used 1 n (p 1) (a .rest-1)) (join _ _ (used 2 n (p 2) (a .rest-2)) (used 3 n (p 3) (a .rest-3)))) in
+    let shape : in-prop-shape (prop-shape atomic) (without-kinds q) ≡ true =
+    join _ _ (join _ _ (le-leb 0 n (omega arith)) (le-leb n 4 (a .few))) (join _ _ (eq-eqb (q .c) 0 (a .bare)) rest) in
+    subst⁻¹ (λ (K : PropKind). form-as K q ≡ true) K
+    (join _ _ kinds (subst⁻¹ (λ (K : PropKind). in-prop-shape (prop-shape K) (without-kinds q) ≡ true) K shape))
 
 -- LISTS OF PARAMETERS that are the same
 pub param-self : (x : Param) → same-param x x ≡ true

@@ -3,6 +3,7 @@ pub mod Rooms
 pub mod Heads
 pub mod Views
 pub mod Counts
-pub mod Occurs
 pub mod Atoms
+pub mod Places
+pub mod Occurs
 pub mod Alike

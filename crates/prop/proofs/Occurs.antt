@@ -1,17 +1,17 @@
 -- An identifier occurs in an atom, or in a part. Assumes nothing.
 use mathlib.Core.Path.{_≡_, refl, ap, ap₂, sym, _∙_}
-use mathlib.Core.Bool.{Bool, true, false, _&&_, _||_, not, or-false}
-use mathlib.Core.List.{List, [], _∷_}
+use mathlib.Core.Bool.{Bool, true, false, _&&_, _||_, not}
+use mathlib.Core.List.{List}
 use Prim.Native.Nat.{ℕ, zero, suc, _<_, _≤_}
 use native.Mathlib.Omega.{arith}
-use lib.ListN.{getD, take}
-use lib.Seq.{take-nil}
 use lib.Dec.{eqb, ltb}
-use borrow.Author.Tests.{ne-eqb, lt-ltb}
+use borrow.Author.Tests.{ne-eqb}
 use Rattle.numbers.specs.declared.record.Record.{Record}
 use Rattle.numbers.specs.Records.{recordAt}
-use Rattle.rules.specs.Prop.{Param, Prop, const, link, quant, atom, each-param, each, other, holds}
-use Rattle.prop.specs.Room.{param, kind-0, kind-1, kind-2, kind-3, params, roomAt, Arena}
+use Rattle.rules.specs.Prop.{Param, free, ser, bound, Prop, const, link, quant, atom, each-param, each, other, holds}
+use Rattle.prop.specs.Room.{param, params, roomAt, Arena}
+use Rattle.prop.specs.Atom.{place, kind-at, number-at, parameterAt, passes}
+use Rattle.prop.proofs.Places.{each-place}
 use Rattle.prop.proofs.Views.{at-constant, at-linked, at-quantified, at-atomic}
 
 not-and : (a b : Bool) → not (a && b) ≡ (not a || not b)
@@ -22,45 +22,39 @@ pub not-not : (a : Bool) → not (not a) ≡ a
 not-not true = refl
 not-not false = refl
 
--- A PARAMETER
-abbrev hit : ℕ → ℕ → ℕ → Bool
-hit s k x = eqb k 1 && eqb x s
-
-param-hit : (s k x : ℕ) → hit s k x ≡ not (other s (param k x))
-unfolding param other
-param-hit s zero x = refl
-param-hit s (suc zero) x = sym (not-not (eqb x s))
-param-hit s (suc (suc k)) x = ap (λ (b : Bool). b && eqb x s) (ne-eqb (suc (suc k)) 1 (omega arith))
-
--- AN ATOM: among its first parameters
+-- A PLACE holds an identifier, an atom holds it in one of its places
 module _ (s : ℕ) where
-  cons-hit : (k x : ℕ) (xs : List Param) (b : Bool) → b ≡ not (each-param (other s) xs) → (hit s k x || b) ≡ not (each-param (other s) (param k x ∷ xs))
-  unfolding each-param
-  cons-hit k x xs b e = ap₂ _||_ (param-hit s k x) e ∙ sym (not-and (other s (param k x)) (each-param (other s) xs))
+  is-it : (k x : ℕ) → (eqb k 1 && eqb x s) ≡ not (other s (param k x))
+  unfolding param other
+  is-it zero x = refl
+  is-it (suc zero) x = sym (not-not (eqb x s))
+  is-it (suc (suc k)) x = ap (λ (b : Bool). b && eqb x s) (ne-eqb (suc (suc k)) 1 (omega arith))
 
-  none-hit : false ≡ not (each-param (other s) [])
-  unfolding each-param
-  none-hit = refl
+  place-holds : (u : Bool) (x : Param) → (u && not (other s x)) ≡ not (passes (other s) (place u x))
+  place-holds true (free x) = refl
+  place-holds true (ser i) = refl
+  place-holds true (bound k) = refl
+  place-holds false x = refl
 
-  last-hit : (k x : ℕ) → hit s k x ≡ not (each-param (other s) (param k x ∷ []))
-  last-hit k x = sym (or-false (hit s k x)) ∙ cons-hit k x _ _ none-hit
+  pub holds-at-place : (r : Record) (i k x : ℕ) → k ≡ kind-at r i → x ≡ number-at r i
+      → (ltb i (r .count) && (eqb k 1 && eqb x s)) ≡ not (passes (other s) (parameterAt r i))
+  unfolding parameterAt
+  holds-at-place r i k x ek ex =
+      (λ j. ltb i (r .count) && (eqb (ek j) 1 && eqb (ex j) s))
+      ∙ ap (λ (b : Bool). ltb i (r .count) && b) (is-it (kind-at r i) (number-at r i))
+      ∙ place-holds (ltb i (r .count)) (param (kind-at r i) (number-at r i))
 
-  among : (n k x l y m z o v : ℕ)
-      → ((ltb 0 n && hit s k x) || ((ltb 1 n && hit s l y) || ((ltb 2 n && hit s m z) || (ltb 3 n && hit s o v))))
-      ≡ not (each-param (other s) (take n (param k x ∷ param l y ∷ param m z ∷ param o v ∷ [])))
-  among zero k x l y m z o v = none-hit
-  among (suc zero) k x l y m z o v = cons-hit k x _ _ none-hit
-  among (suc (suc zero)) k x l y m z o v = cons-hit k x _ _ (cons-hit l y _ _ none-hit)
-  among (suc (suc (suc zero))) k x l y m z o v = cons-hit k x _ _ (cons-hit l y _ _ (cons-hit m z _ _ none-hit))
-  among (suc (suc (suc (suc n)))) k x l y m z o v =
-      rw (lt-ltb 0 (suc (suc (suc (suc n)))) (omega arith), lt-ltb 1 (suc (suc (suc (suc n)))) (omega arith), lt-ltb 2 (suc (suc (suc (suc n)))) (omega arith), lt-ltb 3 (suc (suc (suc (suc n)))) (omega arith), take-nil {A = Param} n)
-      (cons-hit k x _ _ (cons-hit l y _ _ (cons-hit m z _ _ (last-hit o v))))
-
-  pub atom-hit : (r : Record) (a b c d : Bool) → a ≡ hit s (kind-0 (r .b)) (getD (r .parameters) 0 0) → b ≡ hit s (kind-1 (r .b)) (getD (r .parameters) 1 0)
-      → c ≡ hit s (kind-2 (r .b)) (getD (r .parameters) 2 0) → d ≡ hit s (kind-3 (r .b)) (getD (r .parameters) 3 0)
-      → ((ltb 0 (r .count) && a) || ((ltb 1 (r .count) && b) || ((ltb 2 (r .count) && c) || (ltb 3 (r .count) && d)))) ≡ not (each-param (other s) (params r))
-  unfolding params
-  atom-hit r a b c d ea eb ec ed = rw (ea, eb, ec, ed) (among (r .count) (kind-0 (r .b)) _ (kind-1 (r .b)) _ (kind-2 (r .b)) _ (kind-3 (r .b)) _)
+  pub holds-in-one : (r : Record) (a b c d : Bool)
+      → a ≡ not (passes (other s) (parameterAt r 0)) → b ≡ not (passes (other s) (parameterAt r 1))
+      → c ≡ not (passes (other s) (parameterAt r 2)) → d ≡ not (passes (other s) (parameterAt r 3))
+      → (a || (b || (c || d))) ≡ not (each-param (other s) (params r))
+  holds-in-one r a b c d ea eb ec ed =
+      let p : ℕ → Bool = λ i. passes (other s) (parameterAt r i) in
+      (λ i. ea i || (eb i || (ec i || ed i)))
+      ∙ ap (λ (b : Bool). not (p 0) || (not (p 1) || b)) (sym (not-and (p 2) (p 3)))
+      ∙ ap (λ (b : Bool). not (p 0) || b) (sym (not-and (p 1) (p 2 && p 3)))
+      ∙ sym (not-and (p 0) (p 1 && (p 2 && p 3)))
+      ∙ ap not (each-place (other s) r)
 
 -- a test that does not ask how deep a parameter stands
 pub each-deep : (t : Param → Bool) (d e : ℕ) (P : Prop) → each (λ i. t) d P ≡ each (λ i. t) e P

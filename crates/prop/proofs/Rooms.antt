@@ -1,6 +1,6 @@
 -- What a room of propositions stands for, one record at a time, and what stays when the room grows. Assumes nothing.
 use mathlib.Core.Path.{_≡_, refl, ap, subst, subst⁻¹, _∙_}
-use mathlib.Core.Bool.{true, false, false≢true}
+use mathlib.Core.Bool.{true, false≢true}
 use mathlib.Core.List.{List, [], _∷_}
 use mathlib.Core.Logic.{_⊎_, inl, inr}
 use Prim.Native.Nat.{ℕ, zero, suc, _+_, _*_, _<_, _≤_}
@@ -112,9 +112,6 @@ module _ {old : List ℕ} (new : List ℕ) {c : ℕ} (ok : Arena old c) (same : 
         form = subst⁻¹ (λ (r : Record). room-form r ≡ true) (same n k) (d .form);
         links = subst⁻¹ (λ (r : Record). all-links (λ m. ltb m n) (prop-links r) ≡ true) (same n k) (d .links);
       }
-
-  pub arena-same : length new ≡ length old → Arena new c
-  arena-same l = record { each = node-kept; room = omega (arith, ok .room) }
 
 -- ONE RECORD MORE
 pub same-put : {old new : List ℕ} {c : ℕ} {r : Record} → Put old c r new → Same c old new

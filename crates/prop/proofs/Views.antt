@@ -9,9 +9,8 @@ use Rattle.numbers.specs.Records.{recordAt}
 use Rattle.rules.specs.Prop.{Link, and, or, imp, Quant, all, ex, Prop, const, atom}
 use Rattle.layout.specs.File.{PropKind, constant, linked, quantified, atomic, prop-kind, prop-kinds}
 use Rattle.prop.specs.Room.{params, origin, node, roomAt, Arena}
-use Rattle.prop.specs.Head.{Joins, Binds}
 use Rattle.prop.proofs.Rooms.{kind-known, room-step}
-use Rattle.prop.proofs.Heads.{head-joins, head-binds}
+use Rattle.prop.proofs.Heads.{Joins, Binds, head-joins, head-binds}
 
 pub kind-constant : (k : ℕ) → k < 2 → (b : Bool) × (prop-kind k ≡ constant b)
 unfolding prop-kind prop-kinds

@@ -16,12 +16,7 @@ compared-props P Q = compared (same true P Q) (same false P Q)
 abbrev pub compared-types : Ty → Ty → Compared
 compared-types S T = compared (eq S T) (alpha S T)
 
--- an answer taken apart: what is equal is alpha-equal too
-abbrev pub is-equal : Compared → Bool
-is-equal Equal = true
-is-equal Alpha = false
-is-equal Apart = false
-
+-- what is equal is alpha-equal too
 abbrev pub is-alpha : Compared → Bool
 is-alpha Equal = true
 is-alpha Alpha = true

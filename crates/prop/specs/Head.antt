@@ -1,44 +1,52 @@
--- A proposition taken apart at its head: what the answers of `head` say. Assumes nothing.
+-- A type taken apart at its head: what the answers of `head` say of the rules' way of doing it. Assumes nothing.
 use mathlib.Core.Path.{_≡_}
-use mathlib.Core.Bool.{Bool, false}
 use mathlib.Core.List.{List}
 use Prim.Native.Nat.{ℕ, _<_}
-use Rattle.numbers.specs.Records.{recordAt}
-use Rattle.rules.specs.Prop.{Link, Quant, Prop, const, link, quant, atom, same-link, same-quant}
+use Rattle.numbers.specs.declared.Sort.{Sort}
+use Rattle.rules.specs.Prop.{Link, and, or, imp, Quant, all, ex, Prop}
+use Rattle.rules.specs.Step.{Arity, Prog, on-link, on-quant}
+use Rattle.prop.specs.declared.head.Link.{Link as LinkWord}
+use Rattle.prop.specs.declared.head.Link.the-variants as links
+use Rattle.prop.specs.declared.head.Quant.{Quant as QuantWord}
+use Rattle.prop.specs.declared.head.Quant.the-variants as quants
 use Rattle.prop.specs.declared.head.Parts.{Parts}
 use Rattle.prop.specs.declared.head.Parts.the-variants as two
 use Rattle.prop.specs.declared.head.Quantified.{Quantified}
 use Rattle.prop.specs.declared.head.Quantified.the-variants as one
-use Rattle.prop.specs.Room.{origin, roomAt}
+use Rattle.prop.specs.Room.{roomAt, typeAt}
 
--- the head is that link, that quantifier
-unfoldable pub is-link : Link → Prop → Bool
-is-link l (const o b) = false
-is-link l (link o h A B) = same-link l h
-is-link l (quant o q x D B) = false
-is-link l (atom o p xs) = false
+-- the code's words for the rules' heads
+abbrev pub link-of : LinkWord → Link
+link-of links.And = and
+link-of links.Or = or
+link-of links.Impl = imp
 
-unfoldable pub is-quant : Quant → Prop → Bool
-is-quant q (const o b) = false
-is-quant q (link o h A B) = false
-is-quant q (quant o r x D B) = same-quant q r
-is-quant q (atom o p xs) = false
+abbrev pub quant-of : QuantWord → Quant
+quant-of quants.All = all
+quant-of quants.Ex = ex
 
--- number n stands for the link of what a and b stand for; for the quantifier over what m stands for. All have smaller numbers
-pub record Joins (l : Link) (w : List ℕ) (n a b : ℕ) : Type 0 where
-  pub first : a < n
-  pub second : b < n
-  pub whole : (tables : ℕ) → roomAt tables w n ≡ link (origin tables n) l (roomAt tables w a) (roomAt tables w b)
+-- a program that asks for the parts goes on with these, or goes on without
+pub record Split (h : Link) (ps : List ℕ) (c : ℕ) (T : Sort) (a b : ℕ) : Type 0 where
+  pub first : a < c
+  pub second : b < c
+  pub goes : (tables : ℕ) (n : Arity) (k : Prop → Prop → Prog n) (z : Prog n) → on-link h (typeAt tables ps T) k z ≡ k (roomAt tables ps a) (roomAt tables ps b)
 
-pub record Binds (q : Quant) (w : List ℕ) (n D m : ℕ) : Type 0 where
-  pub under : m < n
-  pub whole : (tables : ℕ) → roomAt tables w n ≡ quant (origin tables n) q (recordAt w n .a) D (roomAt tables w m)
+abbrev pub Unsplit : Link → List ℕ → Sort → Type 0
+Unsplit h ps T = (tables : ℕ) (n : Arity) (k : Prop → Prop → Prog n) (z : Prog n) → on-link h (typeAt tables ps T) k z ≡ z
 
--- what the answers say
-abbrev pub PartsIs : Link → List ℕ → ℕ → Parts → Type 0
-PartsIs l w n (two.Both a b) = Joins l w n (a .0) (b .0)
-PartsIs l w n two.Other = (tables : ℕ) → is-link l (roomAt tables w n) ≡ false
+abbrev pub SplitAs : Link → List ℕ → ℕ → Sort → Parts → Type 0
+SplitAs h ps c T (two.Both a b) = Split h ps c T (a .0) (b .0)
+SplitAs h ps c T two.Other = Unsplit h ps T
 
-abbrev pub QuantifiedIs : Quant → List ℕ → ℕ → Quantified → Type 0
-QuantifiedIs q w n (one.Over D m) = Binds q w n (D .0) (m .0)
-QuantifiedIs q w n one.Other = (tables : ℕ) → is-quant q (roomAt tables w n) ≡ false
+-- the same of a quantifier: the object's name, which no rule uses, the datatype, the body
+pub record Over (q : Quant) (ps : List ℕ) (c : ℕ) (T : Sort) (D m : ℕ) : Type 0 where
+  pub object : ℕ
+  pub body : m < c
+  pub goes : (tables : ℕ) (n : Arity) (k : ℕ → ℕ → Prop → Prog n) (z : Prog n) → on-quant q (typeAt tables ps T) k z ≡ k object D (roomAt tables ps m)
+
+abbrev pub NotOver : Quant → List ℕ → Sort → Type 0
+NotOver q ps T = (tables : ℕ) (n : Arity) (k : ℕ → ℕ → Prop → Prog n) (z : Prog n) → on-quant q (typeAt tables ps T) k z ≡ z
+
+abbrev pub OverAs : Quant → List ℕ → ℕ → Sort → Quantified → Type 0
+OverAs q ps c T (one.Over D m) = Over q ps c T (D .0) (m .0)
+OverAs q ps c T one.Other = NotOver q ps T

@@ -4,7 +4,14 @@ ghost use mathlib.Core.Bool.{_&&_};
 ghost use Prim.Native.Nat.{ℕ, _<_};
 ghost use lib.Dec.{eqb};
 ghost use Rattle.prop.specs.Room.{roomAt, typeAt, TypeIn, Arena};
-ghost use Rattle.prop.specs.Compare.{compared, both, «is-equal», «is-alpha», «same-fields», «compared-props», «compared-types»};
+ghost use Rattle.prop.specs.Compare.{compared, both, «is-alpha», «same-fields», «compared-props», «compared-types»};
+use super::node::AND;
+use super::node::ATOM;
+use super::node::EXISTS;
+use super::node::FALSE;
+use super::node::FOR_ALL;
+use super::node::IMPL;
+use super::node::TRUE;
 use super::node::node_at;
 use numbers::Proposition;
 use numbers::Sort;
@@ -14,16 +21,6 @@ pub enum Compared {
     Equal,
     Alpha,
     Apart,
-}
-
-pub fn is_equal(c: Compared) -> bool
-    ensures { λ r. ⌜ r ≡ «is-equal» c ⌝ }
-{
-    match c {
-        Compared::Equal => true,
-        Compared::Alpha => false,
-        Compared::Apart => false,
-    }
 }
 
 // What is equal is alpha-equal too.
@@ -100,8 +97,8 @@ pub fn compare(props: &[u8], count: u16, a: Proposition, b: Proposition) -> Comp
         return Compared::Apart;
     }
     match kind {
-        0..=1 => Compared::Equal,
-        2..=4 => {
+        TRUE..=FALSE => Compared::Equal,
+        AND..=IMPL => {
             let first = compare(props, count, Proposition(r.a), Proposition(s.a));
             if let Compared::Apart = first {
                 return first;
@@ -111,7 +108,7 @@ pub fn compare(props: &[u8], count: u16, a: Proposition, b: Proposition) -> Comp
                 compare(props, count, Proposition(r.b), Proposition(s.b)),
             )
         }
-        5..=6 => {
+        FOR_ALL..=EXISTS => {
             let first = binders(r, s);
             if let Compared::Apart = first {
                 return first;
@@ -121,7 +118,7 @@ pub fn compare(props: &[u8], count: u16, a: Proposition, b: Proposition) -> Comp
                 compare(props, count, Proposition(r.c), Proposition(s.c)),
             )
         }
-        7..=255 => atoms(r, s),
+        ATOM..=255 => atoms(r, s),
     }
 }
 

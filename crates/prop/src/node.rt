@@ -1,4 +1,4 @@
-// A record of the propositions room, and the kinds that the rules ask for.
+// A record of the propositions room, and the kinds of propositions.
 ghost use mathlib.Core.Path.{_≡_};
 ghost use Prim.Native.Nat.{_<_};
 ghost use Rattle.numbers.specs.Records.{recordAt};
@@ -20,6 +20,8 @@ pub const IMPL: u8 = 4;
 pub const FOR_ALL: u8 = 5;
 
 pub const EXISTS: u8 = 6;
+
+pub const ATOM: u8 = 7;
 
 // The record of proposition n, one of the first `count`.
 pub fn node_at(props: &[u8], count: u16, n: Proposition) -> Record

@@ -4,6 +4,10 @@ ghost use Prim.Native.Nat.{ℕ, _<_};
 ghost use Rattle.rules.specs.Prop.{size};
 ghost use Rattle.prop.specs.Room.{roomAt, Arena};
 ghost use Rattle.prop.specs.Size.{counted};
+use super::node::AND;
+use super::node::EXISTS;
+use super::node::FOR_ALL;
+use super::node::IMPL;
 use super::node::node_at;
 use numbers::Proposition;
 
@@ -25,7 +29,7 @@ pub fn nodes_of(props: &[u8], count: u16, n: Proposition, left: u16) -> Nodes
     let r = node_at(props, count, n);
     let kind = r.kind;
     match kind {
-        2..=4 => {
+        AND..=IMPL => {
             let Nodes::Within(a) = nodes_of(props, count, Proposition(r.a), left - 1) else {
                 return Nodes::Over;
             };
@@ -34,7 +38,7 @@ pub fn nodes_of(props: &[u8], count: u16, n: Proposition, left: u16) -> Nodes
             };
             Nodes::Within(1 + a + b)
         }
-        5..=6 => {
+        FOR_ALL..=EXISTS => {
             let Nodes::Within(a) = nodes_of(props, count, Proposition(r.c), left - 1) else {
                 return Nodes::Over;
             };

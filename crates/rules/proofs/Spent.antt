@@ -14,7 +14,7 @@ use Rattle.rules.specs.Context.{Entry, Ctx, find, resolve}
 use Rattle.rules.specs.State.{St, limit, next, spend, room}
 use Rattle.rules.specs.Term.{Leaf, ident, unit, Single, fst, snd, left, right, abort, fun, ascribe, Double, pair, app, let-in, Triple, case, Term, leaf, single, double, triple, sorry, place, nodes}
 use Rattle.rules.specs.Tree.{Node, Gap, Trees, end, gap, node, _⊕_, stack, goals, records, holes, width, EveryGap}
-use Rattle.rules.specs.Step.{Want, synth, check, Out, refused, ok, then, Answer, Steps, Run, Arity, done, more, Prog, conclude, refuse, serial, make, name-of, ask, Kids, Step, with-kid, named, obey, finish, perform, on-link, on-quant, on-prop, on-found, on-type, look-up, objected, resolved, against, expecting}
+use Rattle.rules.specs.Step.{Want, synth, check, Refusal, Out, stop, refused, ok, then, Answer, Steps, Run, Arity, done, more, Prog, conclude, halt, refuse, serial, make, name-of, ask, Kids, Step, with-kid, named, obey, finish, perform, on-link, on-quant, on-prop, on-found, on-type, look-up, objected, resolved, against, expecting}
 use Rattle.rules.specs.Rules.{one, two, by, ident-synth, ident-step, project-synth, project-step, applying, app-synth, app-step, pair-step, annotated, fun-body, abstracted, fun-synth, opening, fun-step, closing, let-close, let-opening, let-step, inject-step, case-step, abort-step, unit-step, ascribe-step, leaf-step, single-step, double-step, triple-step, sorry-run, run}
 use Rattle.rules.specs.Filling.{At}
 use Rattle.rules.proofs.Gaps.{every-join, every-stack, every-map, every-at}
@@ -73,10 +73,10 @@ near-few near-two = omega arith
 -- PROGRAMS that ask in contexts near to Γ, conclude with nodes that P holds of and, where u serials were made before, make at most 2 in all
 data Thrifty (P : List Node → Type 0) (Γ : Ctx) : (n : Arity) → ℕ → Prog n → Type 0 where
   t-conclude : {u : ℕ} {A : Ty} {ns : List Node} → T (leb u 2) → P ns → Thrifty P Γ done u (conclude A ns)
-  t-refuse : {n : Arity} {u c p : ℕ} → Thrifty P Γ n u (refuse c p)
+  t-refuse : {n : Arity} {u : ℕ} {r : Refusal} → Thrifty P Γ n u (halt r)
   t-serial : {n : Arity} {u : ℕ} {k : ℕ → Prog n} → ((i : ℕ) → Thrifty P Γ n (suc u) (k i)) → Thrifty P Γ n u (serial k)
   t-make : {n : Arity} {u c p : ℕ} {k : Prog n} → Thrifty P Γ n u k → Thrifty P Γ n u (make c p k)
-  t-name : {n : Arity} {u c p : ℕ} {k : ℕ → Prog (more n)} → ((x : ℕ) → Thrifty P Γ (more n) u (k x)) → Thrifty P Γ (more n) u (name-of c p k)
+  t-name : {n : Arity} {u : ℕ} {r : Refusal} {k : ℕ → Prog (more n)} → ((x : ℕ) → Thrifty P Γ (more n) u (k x)) → Thrifty P Γ (more n) u (name-of r k)
   t-ask : {n : Arity} {u : ℕ} {w : Want} {Δ : Ctx} {k : Ty → Prog n} → Near Γ Δ → ((A : Ty) → Thrifty P Γ n u (k A)) → Thrifty P Γ (more n) u (ask w Δ k)
 
 -- one node; or, of a rule for so many children, at most two: none only over a single child
@@ -263,27 +263,27 @@ module _ (p : ℕ) where
 
 -- A PROGRAM over children that have c nodes in all
 abbrev After : {X : Type 0} → (X → St → Type 0) → Out X → Type 0
-After F (refused n p) = Unit {0}
+After F (stop r) = Unit {0}
 After F (ok x st) = F x st
 
 module _ {X : Type 0} (F : X → St → Type 0) where
   after-then : {Y : Type 0} (G : Y → St → Type 0) (o : Out X) (k : X → St → Out Y) → After F o → ((x : X) (st : St) → F x st → After G (k x st)) → After G (then o k)
   unfolding then
-  after-then G (refused n p) k h hk = tt
+  after-then G (stop r) k h hk = tt
   after-then G (ok x st) k h hk = hk x st h
 
   after-map : (G : X → St → Type 0) (o : Out X) → After F o → ((x : X) (st : St) → F x st → G x st) → After G o
-  after-map G (refused n p) h hk = tt
+  after-map G (stop r) h hk = tt
   after-map G (ok x st) h hk = hk x st h
 
   after-make : (G : X → St → Type 0) (b : Bool) (o : Out X) (p : ℕ) → After F o → (T b → (x : X) (st : St) → F x st → G x st) → After G (cond b o (refused 30 p))
   after-make G true o p h hk = after-map G o h (hk tt)
   after-make G false o p h hk = tt
 
-  after-named : (n p : ℕ) (o : Option ℕ) (k : ℕ → Out X) → ((y : ℕ) → After F (k y)) → After F (named o (refused n p) k)
+  after-named : (r : Refusal) (o : Option ℕ) (k : ℕ → Out X) → ((y : ℕ) → After F (k y)) → After F (named o (stop r) k)
   unfolding named
-  after-named n p none k h = tt
-  after-named n p (some y) k h = h y
+  after-named r none k h = tt
+  after-named r (some y) k h = h y
 
 -- an accepted run from m entries
 abbrev Ran : (n m : ℕ) → St → Answer → St → Type 0
@@ -370,7 +370,7 @@ module _ (P : List Node → Type 0) (Γ : Ctx) where
   taken-obey {n} {u} (t-make {c = m} {p = p} {k = k} h) ks c e st =
       after-make (Taken n u c (spend m st)) (Taken n u c st) (room m st) (obey k ks (spend m st)) p (taken-obey h ks c e (spend m st))
       (λ t r st₁ g. (g .0, made-more u c m st st₁ t (g .1), every-map _ _ (below-make u c (length Γ) m st) (r .premises) (g .2)))
-  taken-obey {n} {u} (t-name {c = m} {p = p} {k = k} h) ks c e st = after-named (Taken n u c st) m p (ks .0 .ident) (λ x. obey (k x) ks st) (λ x. taken-obey (h x) ks c e st)
+  taken-obey {n} {u} (t-name {r = r} {k = k} h) ks c e st = after-named (Taken n u c st) r (ks .0 .ident) (λ x. obey (k x) ks st) (λ x. taken-obey (h x) ks c e st)
   taken-obey {n} {u} (t-ask {n = m} {w = w} {Δ = Δ} {k = k} z h) ks c e st =
       after-then (Ran (e .0) (length Δ) st) (Taken n u c st) (ks .0 .run w Δ st) _ (e .3 w Δ st) (λ a st₁ g.
       after-then (Taken m u (e .1) st₁) (Taken n u c st) (obey (k (a .ty)) (ks .1) st₁) _ (taken-obey (h (a .ty)) (ks .1) (e .1) (e .4) st₁) (λ r st₂ l.

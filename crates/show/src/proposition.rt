@@ -4,47 +4,61 @@ use super::index;
 use super::text;
 use numbers::record::Record;
 use numbers::record::record_at;
+use prop::atom::Parameter;
+use prop::atom::parameter_at;
+use prop::node::AND;
+use prop::node::ATOM;
+use prop::node::EXISTS;
+use prop::node::FALSE;
+use prop::node::FOR_ALL;
+use prop::node::IMPL;
+use prop::node::OR;
+use prop::node::TRUE;
 
 fn name(n: u16) {
     text(b" n");
     super::number(n as u64);
 }
 
-fn parameter(used: bool, kind: u16, x: u16) {
-    if !used {
-        return;
+fn written(p: Parameter) {
+    match p {
+        Parameter::Free(x) => {
+            text(b" fn");
+            super::number(x.0 as u64);
+        }
+        Parameter::Identifier(i) => {
+            text(b" s");
+            super::number(i.0 as u64);
+        }
+        Parameter::Bound(k) => {
+            text(b" b");
+            super::number(k as u64);
+        }
+        Parameter::Unused => {}
     }
-    match kind {
-        0 => text(b" fn"),
-        1 => text(b" s"),
-        _ => text(b" b"),
-    }
-    super::number(x as u64);
 }
 
 fn atom(r: Record) {
-    let n = r.count;
-    let b = r.b;
     text(b"(p");
     name(r.a);
-    parameter(0 < n, b % 4, r.parameters[0]);
-    parameter(1 < n, b / 4 % 4, r.parameters[1]);
-    parameter(2 < n, b / 16 % 4, r.parameters[2]);
-    parameter(3 < n, b / 64 % 4, r.parameters[3]);
+    written(parameter_at(r, 0));
+    written(parameter_at(r, 1));
+    written(parameter_at(r, 2));
+    written(parameter_at(r, 3));
     text(b")");
 }
 
 fn link(kind: u8) {
     match kind {
-        2 => text(b"(& "),
-        3 => text(b"(| "),
+        AND => text(b"(& "),
+        OR => text(b"(| "),
         _ => text(b"(> "),
     }
 }
 
 fn quantifier(r: Record) {
     let kind = r.kind;
-    if kind == 5 {
+    if kind == FOR_ALL {
         text(b"(A");
     } else {
         text(b"(E");
@@ -66,9 +80,9 @@ pub fn proposition(room: &[u8], n: u16) {
     let b = r.b;
     let c = r.c;
     match kind {
-        0 => text(b"T"),
-        1 => text(b"F"),
-        2..=4 => {
+        TRUE => text(b"T"),
+        FALSE => text(b"F"),
+        AND..=IMPL => {
             link(kind);
             if a < n {
                 proposition(room, a);
@@ -79,13 +93,13 @@ pub fn proposition(room: &[u8], n: u16) {
             }
             text(b")");
         }
-        5..=6 => {
+        FOR_ALL..=EXISTS => {
             quantifier(r);
             if c < n {
                 proposition(room, c);
             }
             text(b")");
         }
-        7..=255 => atom(r),
+        ATOM..=255 => atom(r),
     }
 }

@@ -5,45 +5,50 @@ use super::proposition::proposition;
 use super::spaced;
 use super::text;
 use numbers::Serial;
-use numbers::record::Record;
-use numbers::record::record_at;
-use numbers::record::word;
+use numbers::Sort;
+use step::node::NodeRecord;
+use step::node::goal_at;
+use step::node::node_at;
 
-fn serial(n: u16) {
-    if n == Serial::NONE.0 {
+fn serial(i: Serial) {
+    if i.0 == Serial::NONE.0 {
         text(b" -");
     } else {
-        spaced(n);
+        spaced(i.0);
     }
 }
 
 // What a record concludes: a proposition, or that its identifier is of a datatype.
-fn conclusion(props: &[u8], r: Record) {
+fn conclusion(props: &[u8], r: NodeRecord) {
     text(b" | ");
-    if r.count == 0 {
-        proposition(props, r.b);
-    } else {
-        text(b"s");
-        super::number(r.c as u64);
-        text(b" : n");
-        super::number(r.b as u64);
+    let t = r.conclusion;
+    match t {
+        Sort::Proposition(p) => proposition(props, p.0),
+        Sort::Datatype(d) => {
+            text(b"s");
+            super::number(r.first.0 as u64);
+            text(b" : n");
+            super::number(d.0 as u64);
+        }
     }
 }
 
 // Rule, term, both serials, premises.
-fn record(r: Record) {
-    super::number(r.kind as u64);
-    spaced(r.a);
-    serial(r.c);
-    serial(r.parameters[0]);
-    spaced(r.parameters[1]);
+fn record(r: NodeRecord) {
+    super::number(r.rule as u64);
+    spaced(r.term.0);
+    let first = r.first;
+    serial(first);
+    let second = r.second;
+    serial(second);
+    spaced(r.premises);
 }
 
 // Record i of the tree, if the room reaches so far.
 fn node(tree: &[u8], props: &[u8], i: u16, whole: bool) {
     let n = index(i);
     if 16 * n + 16 <= tree.len() {
-        let r = record_at(tree, n);
+        let r = node_at(tree, i);
         record(r);
         if whole {
             conclusion(props, r);
@@ -64,12 +69,13 @@ fn nodes(tree: &[u8], props: &[u8], count: u16, whole: bool) {
 fn goal(goals: &[u8], props: &[u8], i: u16, whole: bool) {
     let n = index(i);
     if 8 * n + 8 <= goals.len() {
+        let g = goal_at(goals, i);
         text(b"goal");
-        spaced(word(goals, 8 * n));
-        spaced(word(goals, 8 * n + 4));
+        spaced(g.term.0);
+        spaced(g.context);
         if whole {
             text(b" | ");
-            proposition(props, word(goals, 8 * n + 2));
+            proposition(props, g.proposition.0);
         }
         text(b"\n");
     }

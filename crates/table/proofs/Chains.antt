@@ -18,7 +18,6 @@ use Rattle.numbers.proofs.Records.{length-word, word-far, word-same}
 use Rattle.rules.specs.Prop.{Param, free, bound, each-param, named-not, closed}
 use Rattle.table.specs.declared.Purpose.{Purpose}
 use Rattle.table.specs.declared.Purpose.the-variants.{Check, Filling}
-use Rattle.table.specs.declared.Verdict.the-variants.{Passes, Refused}
 use Rattle.table.specs.declared.above.Settled.{Settled}
 use Rattle.table.specs.declared.above.Settled.the-variants.{Free, Bound}
 use Rattle.table.specs.declared.Guilty.{Guilty}
@@ -353,7 +352,7 @@ module _ {l : List ℕ} (h : WellLinked l) (n : ℕ) (inside : n < props l) (r :
 
 -- the whole test
 module _ (l : List ℕ) (p : Purpose) where
-  pub no-goal : p ≡ Filling → Passes ≡ open-goal p l
+  pub no-goal : p ≡ Filling → Nobody ≡ open-goal p l
   unfolding open-goal
   no-goal q = rw q
 
@@ -361,10 +360,10 @@ module _ (l : List ℕ) (p : Purpose) where
     pub goal-in : Linked p l → goal < props l
     goal-in h = subst⁻¹ (λ i. i < props l) e (expected-in (subst (λ p. Linked p l) q h))
 
-    pub goal-shut : (b : Bool) → b ≡ closed (propAt l goal) → b ≡ true → Passes ≡ open-goal p l
+    pub goal-shut : (b : Bool) → b ≡ closed (propAt l goal) → b ≡ true → Nobody ≡ open-goal p l
     unfolding open-goal
     goal-shut b x t = let z : closed (propAt l (expected l)) ≡ true = ap (λ i. closed (propAt l i)) (sym e) ∙ sym x ∙ t in rw (q, z)
 
-    pub goal-open : (b : Bool) → b ≡ closed (propAt l goal) → b ≡ false → Refused 7 goal ≡ open-goal p l
+    pub goal-open : (b : Bool) → b ≡ closed (propAt l goal) → b ≡ false → At goal ≡ open-goal p l
     unfolding open-goal
     goal-open b x t = let z : closed (propAt l (expected l)) ≡ false = ap (λ i. closed (propAt l i)) (sym e) ∙ sym x ∙ t in rw (q, z, e)

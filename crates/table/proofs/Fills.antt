@@ -1,6 +1,6 @@
 -- Demand 3 of the rules applies to every passing table: the number of a goal's Sorry record is that of one gap in the table's term.
 -- Assumes nothing.
-use mathlib.Core.Path.{_≡_, refl, sym, _∙_}
+use mathlib.Core.Path.{_≡_, refl}
 use mathlib.Core.Bool.{Bool, true, false}
 use mathlib.Core.Logic.{_⊎_, inl, inr}
 use mathlib.Core.List.{List, []}

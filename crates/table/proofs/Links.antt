@@ -132,10 +132,6 @@ module _ {p : Purpose} {l : List ℕ} (h : Linked p l) where
       let r = term-child (directed h) t c k x in
       owner-only (λ i. term-links (termRecord l i)) (terms l) c (omega (arith, term-once c (omega arith) (r .1))) t k x
 
-  pub holder-root : holder l 0 ≡ Nobody
-  unfolding holder
-  holder-root = owner-none (λ i. term-links (termRecord l i)) (terms l) 0 (root-never (directed h))
-
   pub holder-some : (c : ℕ) → 0 < c → c < terms l → (t : ℕ) × (holder l c ≡ At t)
   unfolding holder
   holder-some c z k = owner-some (λ i. term-links (termRecord l i)) (terms l) c (omega (arith, term-once c z k))

@@ -6,14 +6,14 @@ use Prim.Native.Nat.{ℕ, zero, suc, _+_, _<_, _≤_, min}
 use native.Mathlib.Omega.{arith}
 use native.Mathlib.Numerals.{add-one}
 use borrow.Author.Tests.{eqb-true, eq-eqb, ne-eqb, lt-ltb}
-use lib.ListN.{length, getD, set, replicate, length-set, length-replicate, getD-replicate, List·getD-eq-default}
+use lib.ListN.{length, getD, set, replicate, length-set}
 use lib.Seq.{getD-set-same, getD-set-other}
 use lib.Dec.{eqb, ltb}
 use Rattle.numbers.specs.declared.record.Record.{Record}
 use Rattle.layout.specs.declared.record.TermRecord.{TermRecord}
 use Rattle.table.specs.declared.Purpose.{Purpose}
 use Rattle.layout.specs.File.{props, terms, propRecord, termRecord}
-use Rattle.table.specs.Links.{hits, sum, prop-children, term-children, prop-links, term-links, annotation, annotation-links, heads, prop-named, term-named}
+use Rattle.table.specs.Links.{hits, sum, prop-children, term-children, prop-links, term-links, annotation, annotation-links, heads}
 use Rattle.table.specs.Naming.{Shows, Names, used-hits, NamesShown}
 
 shows-same : (b n : ℕ) (f g : ℕ → ℕ) (w : List ℕ) → Shows b n f w → ((j : ℕ) → f j ≡ g j) → Shows b n g w

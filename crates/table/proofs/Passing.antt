@@ -32,7 +32,7 @@ use Rattle.layout.specs.Form.{prop-shape, prop-form, term-form}
 use Rattle.table.specs.Links.{prop-children, prop-links, term-links, annotation-links, annotation, hits, expected-ok, badly-linked-prop, badly-linked-term}
 use Rattle.table.specs.Reading.{first, parent, object, binders, settled, prop-of, prop-within, type-of, annotated, propAt, termAt}
 use Rattle.table.specs.Size.{height, too-high, depth, too-deep}
-use Rattle.table.specs.Tests.{header, counts, formless, badly-linked, oversized, open-goal, unless, accused, tests}
+use Rattle.table.specs.Tests.{header, counts, formless, badly-linked, oversized, open-goal, unless, accused, from-goal, from-sizes, from-links, from-expected, from-forms, from-counts, tests}
 use Rattle.table.specs.Passing.{Counted, Formed, Linked, Sized, Good}
 use Rattle.table.proofs.Firsts.{first-clear, or-nobody}
 use Rattle.table.proofs.Sums.{hit-here, hit-later}
@@ -73,7 +73,7 @@ pub record Passed (p : Purpose) (l : List ℕ) : Type 0 where
   pub formed : Formed l
   pub linked : Linked p l
   pub sized : Sized l
-  pub shut : open-goal p l ≡ Passes
+  pub shut : open-goal p l ≡ Nobody
 
 unless-passes : (ok : Bool) (n i : ℕ) (rest : Verdict) → unless ok (Refused n i) rest ≡ Passes → (ok ≡ true) × (rest ≡ Passes)
 unfolding unless
@@ -86,7 +86,7 @@ accused-passes k (At i) rest e = absurd (let z : _≡_ {A = ℕ} 0 1 = cc in ome
 accused-passes k Nobody rest e = (refl, e)
 
 pub good-passed : {p : Purpose} {l : List ℕ} → Good p l → Passed p l
-unfolding tests
+unfolding tests from-counts from-forms from-expected from-links from-sizes from-goal
 good-passed {p} {l} e =
     let a = unless-passes (header l) 2 0 _ e in
     let b = unless-passes (counts l) 3 0 _ (a .1) in
@@ -94,13 +94,14 @@ good-passed {p} {l} e =
     let d = unless-passes (expected-ok p l) 5 0 _ (c .1) in
     let f = accused-passes 5 (badly-linked p l) _ (d .1) in
     let g = accused-passes 6 (oversized l) _ (f .1) in
-    record { marked = a .0; counted = counted l (b .0); formed = formed l (c .0); linked = linked p l (d .0) (f .0); sized = sized l (g .0); shut = g .1 }
+    let h = accused-passes 7 (open-goal p l) _ (g .1) in
+    record { marked = a .0; counted = counted l (b .0); formed = formed l (c .0); linked = linked p l (d .0) (f .0); sized = sized l (g .0); shut = h .0 }
 
 pub good-closed : (l : List ℕ) → Good Check l → closed (propAt l (expected l)) ≡ true
 unfolding open-goal
 good-closed l e = at (closed (propAt l (expected l))) (good-passed e .shut)
   where
-    at : (b : Bool) → cond b Passes (Refused 7 (expected l)) ≡ Passes → b ≡ true
+    at : (b : Bool) → cond b Nobody (At (expected l)) ≡ Nobody → b ≡ true
     at true e = refl
     at false e = absurd (let z : _≡_ {A = ℕ} 0 1 = cc in omega arith)
 

@@ -7,9 +7,9 @@ use mathlib.Core.Bool.{Bool, true, false, false≢true}
 use Prim.Native.Nat.{ℕ, zero, suc, _+_, _-_, _<_, _≤_}
 use native.Mathlib.Omega.{arith}
 use lib.Dec.{leb}
-use borrow.Author.Tests.{leb-true, eq-eqb, ne-eqb}
+use borrow.Author.Tests.{leb-true}
 use Rattle.numbers.specs.declared.record.Record.{Record}
-use Rattle.rules.specs.Prop.{free, bound, Prop, link, quant, table, Ty, prop, datatype}
+use Rattle.rules.specs.Prop.{Prop, link, quant, table, Ty, prop, datatype}
 use Rattle.rules.specs.Term.{Leaf, Single, Double, Triple, Term, leaf, single, double, triple, sorry, place, Annotation}
 use Rattle.table.specs.declared.Purpose.{Purpose}
 use Rattle.table.specs.declared.Guilty.{Guilty}
@@ -20,7 +20,7 @@ use Rattle.layout.specs.declared.form.TermShape.{TermShape}
 use Rattle.layout.specs.File.{props, terms, propRecord, termRecord, PropKind, constant, linked, quantified, atomic, strange, prop-kind, Kind, Ident, Pair, ProjectFst, ProjectSnd, Function, Application, LetIn, OrLeft, OrRight, Case, Abort, TheUnit, TypeAscription, Sorry, Strange, kind-of}
 use Rattle.layout.specs.Form.{prop-shape, in-prop-shape, prop-form, term-shape, in-term-shape, term-form}
 use Rattle.table.specs.Links.{prop-children, prop-links, term-children, term-links, hits}
-use Rattle.table.specs.Reading.{parent, object, above, binders-within, binders, settled, prop-of, prop-within, propAt, type-of, ascribed, term-of, annotated, term-within, termAt}
+use Rattle.table.specs.Reading.{parent, object, above, binders-within, binders, prop-of, prop-within, propAt, type-of, ascribed, term-of, annotated, term-within, termAt}
 use Rattle.table.specs.Nearest.{nearer, nearest-above, nearest-within, nearest}
 use Rattle.table.specs.Passing.{Formed, Linked, Directed}
 use Rattle.table.proofs.Sums.{hit-here, hit-later}
@@ -327,19 +327,6 @@ module _ {l : List ℕ} (d : Directed l) where
 
   pub binders-at : (n q : ℕ) → nearest l n ≡ At q → (n < q) × (q < props l) × (binders l n ≡ propRecord l q .a ∷ binders l q)
   binders-at n q e = subst (λ g. Nearest n g (binders l n)) e (binders-from (props l) n (omega arith))
-
-  -- a name, looked for among them
-  pub settled-none : (x k n : ℕ) → nearest l n ≡ Nobody → settled x k (binders l n) ≡ free x
-  unfolding settled
-  settled-none x k n e = rw (binders-none n e)
-
-  pub settled-here : (x k n q : ℕ) → nearest l n ≡ At q → x ≡ propRecord l q .a → settled x k (binders l n) ≡ bound k
-  unfolding settled
-  settled-here x k n q e y = rw (binders-at n q e .2, eq-eqb x (propRecord l q .a) y)
-
-  pub settled-past : (x k n q : ℕ) → nearest l n ≡ At q → (x ≡ propRecord l q .a → ⊥) → settled x k (binders l n) ≡ settled x (suc k) (binders l q)
-  unfolding settled
-  settled-past x k n q e y = rw (binders-at n q e .2, ne-eqb x (propRecord l q .a) y)
 
 -- from the parent's, where each record has one
 module _ {p : Purpose} {l : List ℕ} (h : Linked p l) where

@@ -6,17 +6,12 @@ use mathlib.Core.List.{List, [], _∷_}
 use mathlib.Core.Logic.{_⊎_, inl, inr}
 use Prim.Native.Nat.{ℕ, zero, suc, _+_, _<_, _≤_}
 use native.Mathlib.Nat.{eq-or-lt-of-le}
-use native.Mathlib.Numerals.{add-one}
 use native.Mathlib.Omega.{arith}
 use lib.Dec.{eqb}
 use borrow.Author.Tests.{eqb-true, eq-eqb}
 use Rattle.table.specs.Links.{all-links, hits, sum}
 
 -- SUMS
-pub sum-next : (f : ℕ → ℕ) (n : ℕ) → sum f (n + 1) ≡ f n + sum f n
-unfolding sum
-sum-next f n = rw (add-one n)
-
 pub sum-same : (f g : ℕ → ℕ) (n : ℕ) → ((i : ℕ) → i < n → f i ≡ g i) → sum f n ≡ sum g n
 unfolding sum
 sum-same f g zero h = refl

@@ -1,6 +1,6 @@
 -- Document 01, refusal 5: links in range and the right way, and every record but the root term named exactly once.
 -- Assumes nothing.
-use mathlib.Core.Bool.{Bool, true, false, _&&_, _||_, not, cond}
+use mathlib.Core.Bool.{Bool, true, _&&_, _||_, not, cond}
 use mathlib.Core.List.{List, [], _∷_}
 use Prim.Native.Nat.{ℕ, zero, suc, _+_}
 use lib.Dec.{eqb, ltb}
@@ -52,7 +52,9 @@ abbrev pub prop-links-ok : List ℕ → ℕ → Bool
 prop-links-ok l n = all-links (λ m. ltb m n) (prop-links (propRecord l n))
 
 abbrev pub term-links-ok : List ℕ → ℕ → Bool
-term-links-ok l t = all-links (λ m. ltb t m && ltb m (terms l)) (term-links (termRecord l t)) && all-links (λ m. ltb m (props l)) (annotation (termRecord l t))
+term-links-ok l t =
+    all-links (λ m. ltb t m && ltb m (terms l)) (term-links (termRecord l t))
+    && all-links (λ m. ltb m (props l)) (annotation (termRecord l t))
 
 -- a check has an expected proposition, a filling has none
 abbrev pub expected-ok : Purpose → List ℕ → Bool

@@ -69,5 +69,6 @@ pub record ChildrenFit (r : Record) (n : ℕ) (w : List ℕ) : Type 0 where
 -- above each child: n for a quantifier, else what r has above it
 pub record ChildrenNoted (r : Record) (n : ℕ) (old new : List ℕ) : Type 0 where
   pub size : length new ≡ length old
-  pub child : (m : ℕ) → 0 < hits m (prop-links r) → wordAt new (2 * m) ≡ cond (eqb (prop-shape (prop-kind (r .kind)) .children) 1) n (wordAt old (2 * n))
+  pub child : (m : ℕ) → 0 < hits m (prop-links r)
+      → wordAt new (2 * m) ≡ cond (eqb (prop-shape (prop-kind (r .kind)) .children) 1) n (wordAt old (2 * n))
   pub others : (m : ℕ) → hits m (prop-links r) ≡ 0 → wordAt new (2 * m) ≡ wordAt old (2 * m)

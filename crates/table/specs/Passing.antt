@@ -1,27 +1,26 @@
 -- What a table gives that passed a test: the facts that the next tests, and everything above, may lean on.
 -- Assumes nothing.
 use mathlib.Core.Path.{_≡_}
-use mathlib.Core.Bool.{Bool, true, false}
+use mathlib.Core.Bool.{true, false}
 use mathlib.Core.List.{List}
-use Prim.Native.Nat.{ℕ, _+_, _*_, _<_, _≤_}
+use Prim.Native.Nat.{ℕ, _<_, _≤_}
 use lib.ListN.{length}
 use Rattle.numbers.specs.Limits.{most-propositions, most-terms, most-height, most-depth}
 use Rattle.table.specs.declared.Purpose.{Purpose}
-use Rattle.table.specs.declared.Verdict.{Verdict}
 use Rattle.table.specs.declared.Verdict.the-variants.{Passes}
-use Rattle.layout.specs.File.{props, terms, propRecord, termRecord}
+use Rattle.layout.specs.File.{props, terms, file-size, propRecord, termRecord}
 use Rattle.layout.specs.Form.{prop-form, term-form}
 use Rattle.table.specs.Links.{prop-links-ok, term-links-ok, expected-ok, badly-linked-prop, badly-linked-term}
 use Rattle.table.specs.Reading.{propAt}
 use Rattle.table.specs.Size.{height, depth}
-use Rattle.table.specs.Tests.{header, counts, tests}
+use Rattle.table.specs.Tests.{tests}
 
 -- test 3: the limits, and the length
 pub record Counted (l : List ℕ) : Type 0 where
   pub propositions : props l ≤ most-propositions
   pub some : 1 ≤ terms l
   pub few : terms l ≤ most-terms
-  pub long : length l ≡ 16 + (16 * props l + 16 * terms l)
+  pub long : length l ≡ file-size (props l) (terms l)
 
 -- test 4
 pub record Formed (l : List ℕ) : Type 0 where

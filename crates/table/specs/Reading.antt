@@ -1,9 +1,9 @@
 -- What a table's records stand for: a proposition and a term of the rules, read from any bytes.
 -- Assumes nothing.
-use mathlib.Core.Bool.{Bool, true, false, cond, not}
+use mathlib.Core.Bool.{Bool, false, cond, not}
 use mathlib.Core.List.{List, [], _∷_, map}
 use mathlib.Core.Option.{Option, none, some}
-use Prim.Native.Nat.{ℕ, zero, suc, _+_}
+use Prim.Native.Nat.{ℕ, zero, suc}
 use lib.ListN.{take}
 use lib.Dec.{eqb, ltb}
 use Rattle.numbers.specs.declared.record.Record.{Record}
@@ -12,7 +12,9 @@ use Rattle.rules.specs.Term.{Leaf, Single, Double, Triple, Term, leaf, single, 
 use Rattle.table.specs.declared.Guilty.{Guilty}
 use Rattle.table.specs.declared.Guilty.the-variants.{At, Nobody}
 use Rattle.layout.specs.declared.record.TermRecord.{TermRecord}
-use Rattle.layout.specs.File.{props, terms, propRecord, termRecord, PropKind, constant, linked, quantified, atomic, strange, prop-kind, Kind, Ident, Pair, ProjectFst, ProjectSnd, Function, Application, LetIn, OrLeft, OrRight, Case, Abort, TheUnit, TypeAscription, Sorry, Strange, kind-of}
+use Rattle.layout.specs.File.{props, terms, propRecord, termRecord, PropKind, constant, linked, quantified, atomic, strange, prop-kind}
+use Rattle.layout.specs.File.{Kind, Ident, Pair, ProjectFst, ProjectSnd, Function, Application, LetIn}
+use Rattle.layout.specs.File.{OrLeft, OrRight, Case, Abort, TheUnit, TypeAscription, Sorry, Strange, kind-of}
 use Rattle.table.specs.Links.{prop-links, hits}
 
 -- the lowest of i, i + 1, .. (k numbers) that passes the test

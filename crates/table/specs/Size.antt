@@ -1,9 +1,9 @@
 -- Document 01, refusal 6: how high a proposition is and how deep a term stands, a single node counting 1.
 -- Assumes nothing.
-use mathlib.Core.Bool.{Bool, cond}
+use mathlib.Core.Bool.{Bool}
 use mathlib.Core.List.{List}
 use Prim.Native.Nat.{ℕ, zero, suc, max}
-use lib.Dec.{eqb, ltb}
+use lib.Dec.{ltb}
 use Rattle.numbers.specs.Limits.{most-height, most-depth}
 use Rattle.rules.specs.Prop.{Prop, const, link, quant, atom}
 use Rattle.table.specs.declared.Guilty.{Guilty}

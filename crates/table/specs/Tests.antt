@@ -1,11 +1,11 @@
 -- Document 01, "Refusal numbers": tests 2 to 7 in their order, for a table to check and for a filling, and what they answer.
 -- Assumes nothing.
-use mathlib.Core.Bool.{Bool, true, false, _&&_, not, cond}
+use mathlib.Core.Bool.{Bool, _&&_, not, cond}
 use mathlib.Core.Path.{_≡_}
 use mathlib.Core.List.{List}
 use Prim.Native.Nat.{ℕ, _+_, _*_, _≤_}
 use lib.ListN.{length, getD}
-use lib.Dec.{eqb, leb, ltb}
+use lib.Dec.{eqb, leb}
 use Rattle.numbers.specs.Records.{wordAt}
 use Rattle.numbers.specs.Rooms.{cleared}
 use Rattle.numbers.specs.Limits.{most-propositions, most-terms}
@@ -16,7 +16,7 @@ use Rattle.table.specs.declared.Guilty.{Guilty}
 use Rattle.table.specs.declared.Guilty.the-variants.{At, Nobody}
 use Rattle.table.specs.declared.Verdict.{Verdict}
 use Rattle.table.specs.declared.Verdict.the-variants.{Passes, Refused}
-use Rattle.layout.specs.File.{props, terms, expected, propRecord, termRecord}
+use Rattle.layout.specs.File.{props, terms, expected, file-size, propRecord, termRecord}
 use Rattle.layout.specs.Form.{prop-form, term-form}
 use Rattle.table.specs.Links.{expected-ok, badly-linked-prop, badly-linked-term}
 use Rattle.table.specs.Reading.{first, propAt}
@@ -35,7 +35,7 @@ header l = leb 16 (length l) && (mark l && (eqb (wordAt l 4) 1 && blank l))
 -- TEST 3: the counts within their limits, and a length that goes with them
 unfoldable pub counts : List ℕ → Bool
 counts l =
-    (leb (props l) most-propositions && (leb 1 (terms l) && leb (terms l) most-terms)) && eqb (length l) (16 + (16 * props l + 16 * terms l))
+    (leb (props l) most-propositions && (leb 1 (terms l) && leb (terms l) most-terms)) && eqb (length l) (file-size (props l) (terms l))
 
 -- THE LOWEST guilty record of tests 4, 5 and 6, propositions counted before terms
 unfoldable pub or-term : Guilty → ℕ → Guilty → Guilty
@@ -64,11 +64,12 @@ unfoldable pub oversized : List ℕ → Guilty
 oversized l = lowest l (too-high l) (too-deep l)
 
 -- TEST 7: a check's expected proposition has no free name
-unfoldable pub open-goal : Purpose → List ℕ → Verdict
-open-goal Check l = cond (closed (propAt l (expected l))) Passes (Refused 7 (expected l))
-open-goal Filling l = Passes
+unfoldable pub open-goal : Purpose → List ℕ → Guilty
+open-goal Check l = cond (closed (propAt l (expected l))) Nobody (At (expected l))
+open-goal Filling l = Nobody
 
--- THE TESTS: the first refusal, with its place; the code's answer `Verdict` holds the number and the place as they are
+-- ONE TEST and what comes after it: a refusal, with its place, or the rest; the code's answer `Verdict` holds the number and the place as
+-- they are
 unfoldable pub unless : Bool → Verdict → Verdict → Verdict
 unless ok refusal rest = cond ok rest refusal
 
@@ -76,14 +77,28 @@ unfoldable pub accused : ℕ → Guilty → Verdict → Verdict
 accused k (At i) rest = Refused k i
 accused k Nobody rest = rest
 
+-- THE TESTS, as a chain: each definition is the tests from one on, in the order 2, 3, 4, 5, 6, 7 of `tests`, and so the last stands first
+-- here. A test more is a definition more, named by the one before it
+unfoldable pub from-goal : Purpose → List ℕ → Verdict
+from-goal p l = accused 7 (open-goal p l) Passes
+
+unfoldable pub from-sizes : Purpose → List ℕ → Verdict
+from-sizes p l = accused 6 (oversized l) (from-goal p l)
+
+unfoldable pub from-links : Purpose → List ℕ → Verdict
+from-links p l = accused 5 (badly-linked p l) (from-sizes p l)
+
+unfoldable pub from-expected : Purpose → List ℕ → Verdict
+from-expected p l = unless (expected-ok p l) (Refused 5 0) (from-links p l)
+
+unfoldable pub from-forms : Purpose → List ℕ → Verdict
+from-forms p l = accused 4 (formless l) (from-expected p l)
+
+unfoldable pub from-counts : Purpose → List ℕ → Verdict
+from-counts p l = unless (counts l) (Refused 3 0) (from-forms p l)
+
 unfoldable pub tests : Purpose → List ℕ → Verdict
-tests p l =
-    unless (header l) (Refused 2 0)
-    (unless (counts l) (Refused 3 0)
-    (accused 4 (formless l)
-    (unless (expected-ok p l) (Refused 5 0)
-    (accused 5 (badly-linked p l) (accused 6 (oversized l)
-    (open-goal p l))))))
+tests p l = unless (header l) (Refused 2 0) (from-counts p l)
 
 -- THE ENTRY: a room of at least `test-room` bytes, two for each proposition that a table may have, else refusal 1; those bytes are zeros
 -- afterwards

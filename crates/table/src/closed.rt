@@ -10,8 +10,8 @@ ghost use Rattle.table.specs.Nearest.{Above};
 ghost use Rattle.table.specs.Passing.{Counted, Formed, Linked, WellLinked};
 ghost use Rattle.table.specs.Reading.{binders, settled, propAt};
 ghost use Rattle.table.specs.Tests.{«open-goal», «test-room»};
+use super::Guilty;
 use super::Purpose;
-use super::Verdict;
 use super::above::Settled;
 use super::above::find_above;
 use super::above::settle;
@@ -80,7 +80,7 @@ fn is_closed(file: &[u8], work: &[u8], n: Proposition) -> bool
     }
 }
 
-pub fn open_goal(file: &[u8], work: &mut [u8], purpose: Purpose) -> Verdict
+pub fn open_goal(file: &[u8], work: &mut [u8], purpose: Purpose) -> Guilty
     requires { ⌜ Counted (now file) ⌝ }
     requires { ⌜ Formed (now file) ⌝ }
     requires { ⌜ Linked purpose (now file) ⌝ }
@@ -88,14 +88,14 @@ pub fn open_goal(file: &[u8], work: &mut [u8], purpose: Purpose) -> Verdict
     ensures { λ r. ⌜ r ≡ «open-goal» purpose (now (file .entry)) ⌝ }
 {
     match purpose {
-        Purpose::Filling => Verdict::Passes,
+        Purpose::Filling => Guilty::Nobody,
         Purpose::Check => {
             let e = expected_field(file);
             find_above(file, work);
             if is_closed(file, work, e) {
-                Verdict::Passes
+                Guilty::Nobody
             } else {
-                Verdict::Refused(7, e.0)
+                Guilty::At(e.0)
             }
         }
     }

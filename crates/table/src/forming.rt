@@ -1,10 +1,10 @@
 // Test 4: known kinds, tags and parameter counts, and zeros in every field that the kind does not use.
 ghost use mathlib.Core.Path.{_≡_};
 ghost use mathlib.Core.Bool.{not};
-ghost use Prim.Native.Nat.{ℕ, _+_, _*_, _≤_};
+ghost use Prim.Native.Nat.{_≤_};
 ghost use lib.ListN.{length};
 ghost use Rattle.numbers.specs.Limits.{«most-propositions», «most-terms»};
-ghost use Rattle.layout.specs.File.{props, propRecord, termRecord};
+ghost use Rattle.layout.specs.File.{props, propRecord, termRecord, «file-size»};
 ghost use Rattle.layout.specs.Form.{fits, «prop-form», «term-form»};
 ghost use Rattle.table.specs.Reading.{first};
 ghost use Rattle.table.specs.Tests.{AtMost, «or-term», formless};
@@ -53,7 +53,7 @@ fn term_form(r: TermRecord) -> bool
 }
 
 fn formless_proposition(file: &[u8], p: u16) -> Guilty
-    requires { ⌜ 16 + 16 * p ≤ length (now file) ⌝ }
+    requires { ⌜ «file-size» p 0 ≤ length (now file) ⌝ }
     ensures { λ r. ⌜ r ≡ first (λ n. not («prop-form» (propRecord (now (file .entry)) n))) p ⌝ }
 {
     let mut n: u16 = 0;
@@ -68,7 +68,7 @@ fn formless_proposition(file: &[u8], p: u16) -> Guilty
 }
 
 fn formless_term(file: &[u8], p: u16, count: u16) -> Guilty
-    requires { ⌜ (p ≡ props (now file)) × (16 + (16 * p + 16 * count) ≤ length (now file)) ⌝ }
+    requires { ⌜ (p ≡ props (now file)) × («file-size» p count ≤ length (now file)) ⌝ }
     ensures { λ r. ⌜ r ≡ first (λ t. not («term-form» (termRecord (now (file .entry)) t))) count ⌝ }
 {
     let mut t: u16 = 0;

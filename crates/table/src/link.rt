@@ -1,10 +1,10 @@
 // Test 5: links in range and the right way, every record but the root term named exactly once.
 ghost use mathlib.Core.Path.{_≡_};
 ghost use mathlib.Core.Bool.{_&&_, _||_, not};
-ghost use Prim.Native.Nat.{ℕ, _+_, _*_, _≤_};
+ghost use Prim.Native.Nat.{_+_, _≤_};
 ghost use lib.ListN.{length, getD};
 ghost use lib.Dec.{eqb, ltb};
-ghost use Rattle.layout.specs.File.{props, terms};
+ghost use Rattle.layout.specs.File.{props, terms, «file-size»};
 ghost use Rattle.table.specs.Links.{«all-links», annotation, «prop-links», «term-links», «prop-links-ok», «term-links-ok»};
 ghost use Rattle.table.specs.Passing.{Counted};
 ghost use Rattle.table.specs.Reading.{first};
@@ -63,7 +63,7 @@ fn term_links_ok(r: TermRecord, t: u16, p: u16, count: u16) -> bool
 
 // The work room shows how often each record is named.
 fn badly_linked_proposition(file: &[u8], work: &[u8], p: u16) -> Guilty
-    requires { ⌜ (16 + 16 * p ≤ length (now file)) × (p ≤ length (now work)) ⌝ }
+    requires { ⌜ («file-size» p 0 ≤ length (now file)) × (p ≤ length (now work)) ⌝ }
     ensures { λ r. ⌜ r ≡ first (λ n. not («prop-links-ok» (now (file .entry)) n && eqb (getD (now (work .entry)) n 0) 1)) p ⌝ }
 {
     let mut n: u16 = 0;
@@ -79,8 +79,10 @@ fn badly_linked_proposition(file: &[u8], work: &[u8], p: u16) -> Guilty
 }
 
 fn badly_linked_term(file: &[u8], work: &[u8], p: u16, count: u16) -> Guilty
-    requires { ⌜ (p ≡ props (now file)) × (count ≡ terms (now file)) × (16 + (16 * p + 16 * count) ≤ length (now file)) × (p + count ≤ length (now work)) ⌝ }
-    ensures { λ r. ⌜ r ≡ first (λ t. not («term-links-ok» (now (file .entry)) t && (eqb t 0 || eqb (getD (now (work .entry)) (p + t) 0) 1))) count ⌝ }
+    requires { ⌜ (p ≡ props (now file)) × (count ≡ terms (now file))
+        × («file-size» p count ≤ length (now file)) × (p + count ≤ length (now work)) ⌝ }
+    ensures { λ r.
+        ⌜ r ≡ first (λ t. not («term-links-ok» (now (file .entry)) t && (eqb t 0 || eqb (getD (now (work .entry)) (p + t) 0) 1))) count ⌝ }
 {
     let base = p as usize;
     let mut t: u16 = 0;

@@ -1,12 +1,12 @@
 // Test 5's counts: how often each record is named, in one pass over the table. Byte n of the work room is proposition n's, byte
 // p + t term t's.
 ghost use mathlib.Core.Path.{_≡_};
-ghost use Prim.Native.Nat.{ℕ, _+_, _*_, _<_, _≤_, min};
+ghost use Prim.Native.Nat.{_+_, _<_, _≤_, min};
 ghost use lib.ListN.{length, getD, set};
 ghost use Rattle.numbers.specs.Limits.{«most-propositions»};
 ghost use Rattle.table.specs.Tests.{«test-room»};
-ghost use Rattle.layout.specs.File.{props, terms, propRecord, termRecord};
-ghost use Rattle.table.specs.Links.{hits, sum, annotation, «prop-links», «term-links»};
+ghost use Rattle.layout.specs.File.{props, terms, propRecord, termRecord, «file-size»};
+ghost use Rattle.table.specs.Links.{heads, hits, sum, annotation, «prop-links», «term-links»};
 ghost use Rattle.table.specs.Naming.{Names, «used-hits», NamesShown};
 ghost use Rattle.table.specs.Passing.{Counted};
 use super::Purpose;
@@ -69,8 +69,9 @@ fn name_subterms(work: &mut [u8], p: u16, count: u16, r: TermRecord)
 }
 
 fn by_propositions(file: &[u8], work: &mut [u8], p: u16)
-    requires { ⌜ (16 + 16 * p ≤ length (now file)) × (p ≤ length (now work)) ⌝ }
-    ensures { λ _. ⌜ Names 0 p (λ j. sum (λ m. hits j («prop-links» (propRecord (now (file .entry)) m))) p) (now (work .entry)) (now (work .exit)) ⌝ }
+    requires { ⌜ («file-size» p 0 ≤ length (now file)) × (p ≤ length (now work)) ⌝ }
+    ensures { λ _. ⌜ Names 0 p (λ j. sum (λ m. hits j («prop-links» (propRecord (now (file .entry)) m))) p)
+        (now (work .entry)) (now (work .exit)) ⌝ }
 {
     let mut n: u16 = 0;
     while n < p {
@@ -81,8 +82,9 @@ fn by_propositions(file: &[u8], work: &mut [u8], p: u16)
 }
 
 fn by_annotations(file: &[u8], work: &mut [u8], p: u16, count: u16)
-    requires { ⌜ (p ≡ props (now file)) × (16 + (16 * p + 16 * count) ≤ length (now file)) × (p ≤ length (now work)) ⌝ }
-    ensures { λ _. ⌜ Names 0 p (λ j. sum (λ t. hits j (annotation (termRecord (now (file .entry)) t))) count) (now (work .entry)) (now (work .exit)) ⌝ }
+    requires { ⌜ (p ≡ props (now file)) × («file-size» p count ≤ length (now file)) × (p ≤ length (now work)) ⌝ }
+    ensures { λ _. ⌜ Names 0 p (λ j. sum (λ t. hits j (annotation (termRecord (now (file .entry)) t))) count)
+        (now (work .entry)) (now (work .exit)) ⌝ }
 {
     let mut t: u16 = 0;
     while t < count {
@@ -93,8 +95,10 @@ fn by_annotations(file: &[u8], work: &mut [u8], p: u16, count: u16)
 }
 
 fn by_terms(file: &[u8], work: &mut [u8], p: u16, count: u16)
-    requires { ⌜ (p ≡ props (now file)) × (16 + (16 * p + 16 * count) ≤ length (now file)) × (p + count ≤ length (now work)) × (p ≤ «most-propositions») ⌝ }
-    ensures { λ _. ⌜ Names p count (λ j. sum (λ t. hits j («term-links» (termRecord (now (file .entry)) t))) count) (now (work .entry)) (now (work .exit)) ⌝ }
+    requires { ⌜ (p ≡ props (now file)) × («file-size» p count ≤ length (now file))
+        × (p + count ≤ length (now work)) × (p ≤ «most-propositions») ⌝ }
+    ensures { λ _. ⌜ Names p count (λ j. sum (λ t. hits j («term-links» (termRecord (now (file .entry)) t))) count)
+        (now (work .entry)) (now (work .exit)) ⌝ }
 {
     let mut t: u16 = 0;
     while t < count {
@@ -107,7 +111,7 @@ fn by_terms(file: &[u8], work: &mut [u8], p: u16, count: u16)
 // The header of a table to check names the expected proposition.
 fn by_header(file: &[u8], work: &mut [u8], p: u16, purpose: Purpose)
     requires { ⌜ (16 ≤ length (now file)) × (p ≤ length (now work)) ⌝ }
-    ensures { λ _. ⌜ Names 0 p (λ j. hits j (Rattle.table.specs.Links.heads purpose (now (file .entry)))) (now (work .entry)) (now (work .exit)) ⌝ }
+    ensures { λ _. ⌜ Names 0 p (λ j. hits j (heads purpose (now (file .entry)))) (now (work .entry)) (now (work .exit)) ⌝ }
 {
     let e = expected_field(file);
     match purpose {

@@ -6,6 +6,7 @@ ghost use Rattle.table.specs.Links.{«expected-ok»};
 ghost use Rattle.table.specs.Tests.{mark, blank, header, counts};
 use super::Purpose;
 use layout::header::expected_field;
+use layout::header::file_size;
 use layout::header::proposition_count;
 use layout::header::term_count;
 use numbers::Proposition;
@@ -43,8 +44,7 @@ pub fn well_counted(file: &[u8]) -> bool
 {
     let p = proposition_count(file);
     let t = term_count(file);
-    let size = 16 + (16 * (p as usize) + 16 * (t as usize));
-    ((p <= Proposition::LIMIT) & ((1 <= t) & (t <= Term::LIMIT))) & (file.len() == size)
+    ((p <= Proposition::LIMIT) & ((1 <= t) & (t <= Term::LIMIT))) & (file.len() == file_size(p, t))
 }
 
 // Test 5's expected field: a check has one, a filling has none.

@@ -1,8 +1,8 @@
 // Test 6: heights of propositions from the smallest number up, depths of terms from the root down, a byte of the work room each.
 ghost use mathlib.Core.Path.{_≡_};
-ghost use Prim.Native.Nat.{_+_, _*_, _≤_};
+ghost use Prim.Native.Nat.{_≤_};
 ghost use lib.ListN.{length};
-ghost use Rattle.layout.specs.File.{props, terms};
+ghost use Rattle.layout.specs.File.{props, terms, «file-size»};
 ghost use Rattle.table.specs.Links.{hits, «term-links»};
 ghost use Rattle.table.specs.Naming.{«used-hits»};
 ghost use Rattle.table.specs.Passing.{Counted, WellLinked};
@@ -47,7 +47,7 @@ fn height_of(work: &[u8], r: Record) -> u8
 }
 
 fn too_high(file: &[u8], work: &mut [u8], p: u16) -> Guilty
-    requires { ⌜ (p ≡ props (now file)) × (16 + 16 * p ≤ length (now file)) × (p ≤ length (now work)) ⌝ }
+    requires { ⌜ (p ≡ props (now file)) × («file-size» p 0 ≤ length (now file)) × (p ≤ length (now work)) ⌝ }
     requires { ⌜ WellLinked (now file) ⌝ }
     ensures { λ r. ⌜ r ≡ first («too-high» (now (file .entry))) p ⌝ }
 {
@@ -89,7 +89,8 @@ fn set_depths(work: &mut [u8], r: TermRecord, d: u8)
 }
 
 fn too_deep(file: &[u8], work: &mut [u8], p: u16, count: u16) -> Guilty
-    requires { ⌜ (p ≡ props (now file)) × (count ≡ terms (now file)) × (16 + (16 * p + 16 * count) ≤ length (now file)) × (count ≤ length (now work)) × (1 ≤ count) ⌝ }
+    requires { ⌜ (p ≡ props (now file)) × (count ≡ terms (now file)) ⌝ }
+    requires { ⌜ («file-size» p count ≤ length (now file)) × (count ≤ length (now work)) × (1 ≤ count) ⌝ }
     requires { ⌜ WellLinked (now file) ⌝ }
     ensures { λ r. ⌜ r ≡ first («too-deep» (now (file .entry))) count ⌝ }
 {

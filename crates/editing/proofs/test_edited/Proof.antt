@@ -1,5 +1,7 @@
 use borrow.Author.Needs.{needs}
-use Rattle.editing.proofs.Edits.{refused-3, tested-counted, refused-6, passes}
+use Rattle.table.proofs.Headers.{counted}
+use Rattle.table.proofs.Verdicts.{holds, fails, goes-on}
+use Rattle.editing.specs.Edited.{edited-tests}
 use Rattle.editing.proofs.test_edited.Statement.{statement}
 use Rattle.editing.proofs.test_edited.Tie as tie
 
@@ -7,39 +9,19 @@ well-counted-requires : tie.Need-well-counted-requires
 well-counted-requires c κs = search needs
 
 returns : tie.Need-returns
-returns c = search refused-3
+unfolding edited-tests
+returns c = search fails
 
-oversized-requires : tie.Need-oversized-requires
-oversized-requires c κs = (search tested-counted, (search needs, search needs))
-
-enum-known-i : tie.Need-enum-known-i
-enum-known-i c = search needs
-
-enum-told : tie.Need-enum-told
-enum-told c = search needs
+from-sizes-requires : tie.Need-from-sizes-requires
+from-sizes-requires c κs = (counted _ (search holds), (search needs, search needs))
 
 same-length : tie.Need-same-length
 same-length c = search needs
 
 returns-2 : tie.Need-returns-2
-returns-2 c = search refused-6
-
-same-length-2 : tie.Need-same-length-2
-same-length-2 c = search needs
-
-returns-3 : tie.Need-returns-3
-returns-3 c = search passes
+unfolding edited-tests
+returns-2 c = search goes-on
 
 pub test-edited-spec : {M : Type 1} → statement M
 test-edited-spec =
-    tie.close
-    (tie.spec
-    well-counted-requires
-    returns
-    oversized-requires
-    enum-known-i
-    enum-told
-    same-length
-    returns-2
-    same-length-2
-    returns-3)
+    tie.close (tie.spec well-counted-requires returns from-sizes-requires same-length returns-2)

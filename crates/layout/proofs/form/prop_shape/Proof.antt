@@ -1,5 +1,4 @@
 use mathlib.Core.Path.{ap, sym, _∙_}
-use native.Mathlib.Omega.{arith}
 use Rattle.layout.proofs.Strange.{strange-prop, past}
 use Rattle.layout.specs.Form.{prop-shape}
 use Rattle.layout.specs.File.{prop-kind, prop-kinds}

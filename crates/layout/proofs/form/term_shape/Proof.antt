@@ -1,5 +1,4 @@
 use mathlib.Core.Path.{ap, sym, _∙_}
-use native.Mathlib.Omega.{arith}
 use Rattle.layout.proofs.Strange.{strange-term, past}
 use Rattle.layout.specs.Form.{term-shape}
 use Rattle.layout.specs.File.{kind-of, kinds}

@@ -16,7 +16,7 @@ too-high-requires : tie.Need-too-high-requires
 too-high-requires c κs = search needs
 
 too-deep-requires : tie.Need-too-deep-requires
-too-deep-requires c κs = search needs
+too-deep-requires c κs = (search needs, (search needs, search needs))
 
 or-term-requires : tie.Need-or-term-requires
 or-term-requires c κs = (search needs, first-most _ _ most-terms _ (c .before .before .too-deep .ensures) (omega arith))

@@ -26,7 +26,7 @@ within c = omega (arith, c .before .before .before .before .pre .0 .1)
 -- what the room has is its depth
 known : (c : tie.In-loop Inv-loop μ-loop)
     → getD (c .before .loop .work) (c .before .loop .t) 0 ≡ depth (c .before .before .before .before .args .file .now) (c .before .loop .t)
-known c = depth-here _ _ _ (c .before .before .before .before .pre .1) (within c) (c .before .loop .inv .3)
+known c = depth-here _ _ _ (c .before .before .before .before .pre .1 .1) (within c) (c .before .loop .inv .3)
 
 record-here : (c : tie.After-term-at Inv-loop μ-loop)
     → c .term-at .result ≡ termRecord (c .before .before .before .before .before .before .before .args .file .now) (c .before .before .before .before .loop .t)
@@ -68,7 +68,7 @@ set-depths-requires c κs =
     let i = c .before .before .before .before in
     let h = i .before in
     let s = h .before .before .before in
-    subterms-within (s .args .file .now) (h .loop .work) (h .loop .t) (s .pre .1) (within i) _ (record-here (c .before)) (omega (arith, s .pre .0, h .loop .inv .2, length-set (s .args .work .now) 0 1))
+    subterms-within (s .args .file .now) (h .loop .work) (h .loop .t) (s .pre .1 .1) (within i) _ (record-here (c .before)) (omega (arith, s .pre .0, s .pre .1 .0, h .loop .inv .2, length-set (s .args .work .now) 0 1))
 
 add-t : tie.Need-add-t Inv-loop μ-loop
 add-t c = search needs
@@ -86,7 +86,7 @@ loop-again c =
       search needs,
       h .loop .inv .1 ∙ first-past (too-deep l) (h .loop .t) (s .args .count) (search needs) (not-deep l (h .loop .t) _ (known i) (c .before .before .before .before .before .if1 .left)),
       d .ensures .size ∙ h .loop .inv .2,
-      depths-next l (h .loop .work) (h .loop .t) (s .pre .1) (within i) _ (record-here (c .before .before .before .before)) (d .last .0) _ (h .loop .inv .3) (known i) (d .ensures),
+      depths-next l (h .loop .work) (h .loop .t) (s .pre .1 .1) (within i) _ (record-here (c .before .before .before .before)) (d .last .0) _ (h .loop .inv .3) (known i) (d .ensures),
     )
 
 same-length-2 : tie.Need-same-length-2 Inv-loop μ-loop

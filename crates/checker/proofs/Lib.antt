@@ -1,1 +1,2 @@
--- The laws are in `marking`.
+-- What the proof of the cycle uses.
+pub mod Turns

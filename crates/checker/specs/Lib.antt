@@ -1,1 +1,1 @@
--- What these contracts cite is in `marking`.
+pub mod Turning

@@ -4,7 +4,7 @@ use mathlib.Core.Bool.{Bool, true, false, _&&_, false≢true}
 use mathlib.Core.List.{List}
 use Prim.Native.Nat.{ℕ}
 use Rattle.rules.specs.State.{St}
-use Rattle.rules.specs.Step.{Out, refused, ok, Answer}
+use Rattle.rules.specs.Step.{Out, stop, ok, Answer}
 use Rattle.table.specs.declared.Purpose.the-variants.{Check}
 use Rattle.table.specs.declared.Verdict.{Verdict}
 use Rattle.table.specs.declared.Verdict.the-variants as verdict
@@ -38,11 +38,11 @@ counts-of d (mark.Refused n p) = d
 
 -- RUNS
 abbrev pub is-ok : Out Answer → Bool
-is-ok (refused n p) = false
+is-ok (stop r) = false
 is-ok (ok a st) = true
 
 abbrev answered : Answer → Out Answer → Answer
-answered d (refused n p) = d
+answered d (stop r) = d
 answered d (ok a st) = a
 
 pub same-answer : {o : Out Answer} {a b : Answer} {st su : St} → o ≡ ok a st → o ≡ ok b su → a ≡ b

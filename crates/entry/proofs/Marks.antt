@@ -1,39 +1,39 @@
 -- From the run to the mark. Assumes nothing.
 use mathlib.Core.Path.{_≡_, refl, ap, ap₂, sym, subst, subst⁻¹, _∙_}
 use mathlib.Core.Bool.{Bool, true, false, _&&_, cond}
-use mathlib.Core.List.{List, [], _++_}
-use Prim.Native.Nat.{ℕ, _+_, _*_, _<_, _≤_}
+use mathlib.Core.List.{List, _++_}
+use Prim.Native.Nat.{ℕ, _+_, _*_, _≤_}
 use native.Mathlib.Omega.{arith}
 use borrow.Author.Tests.{leb-true, le-leb}
-use lib.ListN.{length, getD, take, drop, length-append, length-drop, List·getD-append}
+use lib.ListN.{length, take, drop, length-append}
 use lib.Dec.{leb}
 use lib.Seq.{length-take-le}
-use Rattle.numbers.specs.declared.Term.{Term}
+use Rattle.numbers.specs.declared.Sort.{Sort}
+use Rattle.numbers.specs.declared.refusal.Refusal.{Refusal}
 use Rattle.numbers.specs.Records.{Same}
 use Rattle.numbers.specs.Rooms.{cleared}
 use Rattle.layout.specs.File.{props}
 use Rattle.rules.specs.State.{St}
 use Rattle.rules.specs.Tree.{records, holes}
-use Rattle.rules.specs.Step.{Out, refused, ok, Answer}
+use Rattle.rules.specs.Step.{Out, stop, refused, ok, Answer}
 use Rattle.table.specs.declared.Purpose.{Purpose}
 use Rattle.table.specs.declared.Purpose.the-variants.{Check}
 use Rattle.table.specs.declared.Verdict.{Verdict}
 use Rattle.table.specs.declared.Verdict.the-variants as verdict
 use Rattle.table.specs.Tests.{tests, test-room, unless, Tested}
 use Rattle.table.specs.Passing.{Good}
-use Rattle.prop.specs.Room.{Arena}
 use Rattle.prop.proofs.Rooms.{node-kept}
 use Rattle.arena.specs.Copy.{most-records}
 use Rattle.step.specs.declared.state.State.{State}
-use Rattle.step.specs.declared.state.Checked.{Checked}
-use Rattle.step.specs.declared.state.Checked.the-variants as checked
+use Rattle.step.specs.declared.state.Ran.{Ran as Outcome}
+use Rattle.step.specs.declared.state.Ran.the-variants as ran
 use Rattle.step.specs.Rooms.{Rooms, rooms, stOf, countOf}
-use Rattle.step.specs.Trees.{goalAt, SameGoals, TreesAre}
+use Rattle.step.specs.Trees.{SameGoals}
 use Rattle.step.proofs.Frames.{trees-kept}
 use Rattle.entry.specs.declared.Mark.{Mark}
 use Rattle.entry.specs.declared.Mark.the-variants as mark
-use Rattle.entry.specs.Mark.{tree-bytes, goals-bytes, props-bytes, work-bytes, long-enough, root-run, unless-refused, table-run, outcome, Emptied, Holds, Kept, countsOf, MarkedAs, Marks}
-use Rattle.entry.specs.Rest.{Trimmed, Rest}
+use Rattle.entry.specs.Mark.{tree-bytes, goals-bytes, props-bytes, work-bytes, long-enough, root-run, unless-refused, table-run, outcome, Emptied, Holds, Kept, MarkedAs, Marks}
+use Rattle.entry.specs.Rest.{Rest}
 use Rattle.entry.specs.Ran.{Exact, Ran, RanAs}
 use Rattle.entry.proofs.Answers.{both-true}
 use Rattle.entry.proofs.Rests.{cleared-exact, cleared-parts, cleared-front, same-record, same-goal, front-byte}
@@ -52,13 +52,13 @@ module _ {l : List ℕ} {a : Answer} {st : St} (R R' : Rooms) (h : Holds l R a s
       }
 
 -- AFTER THE RUN
-pub count-fits : (l : List ℕ) (o : Out Answer) (R : Rooms) (r : Checked) (st : State) → r ≡ checked.Fits st → Exact R → RanAs l o R r → countOf l st ≤ most-records
-count-fits l o R r st e x h = let k = subst (RanAs l o R) e h in omega (arith, k .holds .made .room, x .props)
+pub count-fits : (l : List ℕ) (o : Out Answer) (R : Rooms) (r : Outcome) (T : Sort) (st : State) → r ≡ ran.Has T st → Exact R → RanAs l o R r → countOf l st ≤ most-records
+count-fits l o R r T st e x h = let k = subst (RanAs l o R) e h in omega (arith, k .holds .made .room, x .props)
 
-pub rest-fits : (l : List ℕ) (o : Out Answer) (R : Rooms) (r : Checked) (st : State) (c : ℕ) → r ≡ checked.Fits st → c ≡ countOf l st → Exact R → RanAs l o R r
+pub rest-fits : (l : List ℕ) (o : Out Answer) (R : Rooms) (r : Outcome) (T : Sort) (st : State) (c : ℕ) → r ≡ ran.Has T st → c ≡ countOf l st → Exact R → RanAs l o R r
     → ((16 * st .records ≤ tree-bytes) × (tree-bytes ≤ length (R .tree)))
     × (((8 * st .goals ≤ goals-bytes) × (goals-bytes ≤ length (R .goals))) × ((16 * c ≤ props-bytes) × (props-bytes ≤ length (R .props))))
-rest-fits l o R r st c e f x h =
+rest-fits l o R r T st c e f x h =
     let k = subst (RanAs l o R) e h in
     let t = k .holds .tree-room in
     let g = k .holds .goals-room in
@@ -70,9 +70,9 @@ rest-fits l o R r st c e f x h =
     let m = k .goals in
     ((omega arith, omega arith), ((omega arith, omega arith), (omega arith, omega arith)))
 
-pub finish-refused : (l : List ℕ) (o : Out Answer) (R R' : Rooms) (r : Checked) (n : ℕ) (p : Term) → r ≡ checked.Refused n p → RanAs l o R r → Emptied R R'
-    → MarkedAs l R R' o (mark.Refused n (p .0))
-finish-refused l o R R' r n p e h z = subst⁻¹ (λ (o : Out Answer). MarkedAs l R R' o (mark.Refused n (p .0))) (subst (RanAs l o R) e h) (refl, z)
+pub finish-refused : (l : List ℕ) (o : Out Answer) (R R' : Rooms) (r : Outcome) (x : Refusal) → r ≡ ran.Refused x → RanAs l o R r → Emptied R R'
+    → MarkedAs l R R' o (mark.Refused (x .number) (x .place))
+finish-refused l o R R' r x e h z = subst⁻¹ (λ (o : Out Answer). MarkedAs l R R' o (mark.Refused (x .number) (x .place))) (subst (RanAs l o R) e h) (refl, z)
 
 -- an acceptance: its counts are the tree's, and what is left of the rooms is kept
 pub kept-rest : (l : List ℕ) (o : Out Answer) (R R' : Rooms) (st : State) (r : Ran l o R st) → Rest (st .records) (st .goals) (countOf l st) R R' → Kept l R R' (r .answer) (stOf st)
@@ -100,9 +100,9 @@ accepted l o R R' st r z =
       kept-rest l o R R' st r z,
     )
 
-pub finish-accepted : (l : List ℕ) (o : Out Answer) (R R' : Rooms) (r : Checked) (st : State) (c : ℕ) → r ≡ checked.Fits st → c ≡ countOf l st → RanAs l o R r
+pub finish-accepted : (l : List ℕ) (o : Out Answer) (R R' : Rooms) (r : Outcome) (T : Sort) (st : State) (c : ℕ) → r ≡ ran.Has T st → c ≡ countOf l st → RanAs l o R r
     → Rest (st .records) (st .goals) c R R' → MarkedAs l R R' o (counted st)
-finish-accepted l o R R' r st c e f h z = accepted l o R R' st (subst (RanAs l o R) e h) (subst (λ (c : ℕ). Rest (st .records) (st .goals) c R R') f z)
+finish-accepted l o R R' r T st c e f h z = accepted l o R R' st (subst (RanAs l o R) e h) (subst (λ (c : ℕ). Rest (st .records) (st .goals) c R R') f z)
 
 -- ROOMS OF JUST THE LISTED SIZES: what they held before the run does not count
 module _ {R R₁ : Rooms} (e : Exact R) (f : Exact R₁) where
@@ -126,7 +126,7 @@ module _ {R R₁ : Rooms} (e : Exact R) (f : Exact R₁) where
       }
 
 marked-over : (l : List ℕ) (R R₁ R' : Rooms) (m : Mark) → Exact R → Exact R₁ → (o : Out Answer) → MarkedAs l R₁ R' o m → MarkedAs l R R' o m
-marked-over l R R₁ R' m e f (refused n p) h = (h .0, emptied-over e f (h .1))
+marked-over l R R₁ R' m e f (stop r) h = (h .0, emptied-over e f (h .1))
 marked-over l R R₁ R' m e f (ok a st) h = (h .0, kept-over e f (h .1))
 
 -- what the tests of a table answer, in a room that is long enough
@@ -229,7 +229,7 @@ module _ (l : List ℕ) (R S : Rooms) (long : long-enough R ≡ true) where
 
 module _ (l : List ℕ) (m : Mark) (R S : Rooms) (long : long-enough R ≡ true) where
   marked-whole : (o : Out Answer) → MarkedAs l (firsts R) S o m → MarkedAs l R (followed S R) o m
-  marked-whole (refused n p) h = (h .0, emptied-whole l R S long (h .1))
+  marked-whole (stop r) h = (h .0, emptied-whole l R S long (h .1))
   marked-whole (ok a st) h = (h .0, kept-whole l R S long (h .1))
 
   pub marks-long : MarkedAs l (firsts R) S (table-run l) m → Marks l R (followed S R) m

@@ -1,9 +1,9 @@
 -- The statements of specs/Promises.antt, from `Marks`. Assumes nothing.
-use mathlib.Core.Path.{_≡_, refl, ap, ap₂, sym, subst, subst⁻¹, subst₂, _∙_}
+use mathlib.Core.Path.{_≡_, refl, ap, sym, subst, subst⁻¹, subst₂, _∙_}
 use mathlib.Core.Bool.{Bool, true, false, cond, true≢false, false≢true}
-use mathlib.Core.List.{List, [], _∷_, map, map-append}
+use mathlib.Core.List.{List, _∷_, map, map-append}
 use mathlib.Core.Logic.{_⊎_, inl, inr}
-use Prim.Native.Nat.{ℕ, zero, suc, _+_, _*_, _<_, _≤_}
+use Prim.Native.Nat.{ℕ, zero, _+_, _<_, _≤_}
 use native.Mathlib.Omega.{arith}
 use borrow.Author.Tests.{ltb-true, ltb-false}
 use lib.ListN.{length, getD, length-map}
@@ -17,31 +17,27 @@ use Rattle.numbers.specs.Records.{recordAt}
 use Rattle.layout.specs.File.{props, PropKind, constant, linked, quantified, atomic, strange, prop-kind}
 use Rattle.rules.specs.Prop.{Origin, table, made, Prop, const, link, quant, atom, Ty, prop, datatype}
 use Rattle.rules.specs.State.{St}
-use Rattle.rules.specs.Term.{sorries}
 use Rattle.rules.specs.Tree.{Node, Gap, Trees, end, gap, node, goals, records, holes}
-use Rattle.rules.specs.Step.{Out, refused, ok, Answer}
+use Rattle.rules.specs.Step.{Out, stop, refused, ok, Answer}
 use Rattle.rules.specs.Filling.{At, before, after}
 use Rattle.rules.proofs.Goals.{goals-in-order, goals-at}
 use Rattle.rules.proofs.Spent.{holes-goals}
 use Rattle.table.specs.declared.Purpose.the-variants.{Check}
 use Rattle.table.specs.declared.Verdict.{Verdict}
-use Rattle.table.specs.declared.Verdict.the-variants as verdict
-use Rattle.table.specs.Tests.{tests}
 use Rattle.table.specs.Passing.{Good}
 use Rattle.table.specs.Reading.{termAt}
 use Rattle.prop.specs.Room.{origin, roomAt, room-within}
 use Rattle.prop.specs.Room as room
 use Rattle.context.specs.Context.{tagOf, numberOf}
-use Rattle.step.specs.declared.node.Goal.{Goal}
 use Rattle.step.specs.Rooms.{Rooms, reads}
-use Rattle.step.specs.Trees.{nodeRec, goalAt, goalRec, NodeIs, GapIs, TreesAre}
+use Rattle.step.specs.Trees.{nodeRec, goalAt, NodeIs, GapIs, TreesAre}
 use Rattle.step.proofs.Goals.{goal-place, goal-term}
 use Rattle.entry.specs.declared.Counts.{Counts}
 use Rattle.entry.specs.declared.Mark.{Mark}
 use Rattle.entry.specs.declared.Mark.the-variants as mark
 use Rattle.entry.specs.Mark.{long-enough, root-run, unless-refused, table-run, outcome, countsOf, Holds, Kept, MarkedAs, Marks}
 use Rattle.entry.proofs.Answers.{is-accepted, counts-of, is-ok, table-ok}
-use Rattle.entry.specs.Promises.{Accepted, OnlyThen, AlwaysThen, Sorries, GoalsAreSorries, Agree, AgreeNode, AgreeGoal, SameTree, SameIf, TwoRunsAgree}
+use Rattle.entry.specs.Promises.{Accepted, OnlyThen, AlwaysThen, GoalsAreSorries, Agree, AgreeNode, AgreeGoal, SameTree, SameIf, TwoRunsAgree}
 
 -- WHAT AN ACCEPTANCE SAYS
 outcome-ok : (l : List ℕ) (R : Rooms) (a : Answer) (st : St) → outcome l R ≡ ok a st → (long-enough R ≡ true) × Good Check l × (root-run l ≡ ok a st)
@@ -60,7 +56,7 @@ record Taken (l : List ℕ) (R R' : Rooms) (c : Counts) : Type 0 where
   kept : Kept l R R' answer state
 
 taken : (l : List ℕ) (R R' : Rooms) (c : Counts) (o : Out Answer) → outcome l R ≡ o → MarkedAs l R R' o (mark.Accepted c) → Taken l R R' c
-taken l R R' c (refused n p) e h = absurd (true≢false (ap is-accepted (h .0)))
+taken l R R' c (stop r) e h = absurd (true≢false (ap is-accepted (h .0)))
 taken l R R' c (ok a st) e h = record { answer = a; state = st; is = e; counts = ap (counts-of c) (h .0); kept = h .1 }
 
 pub only-then : OnlyThen
@@ -225,7 +221,7 @@ unfolding outcome
 same-outcome l R S e = ap (λ (b : Bool). cond b (table-run l) (refused 1 0)) e
 
 as-marked : (l : List ℕ) (R R' S S' : Rooms) (m n : Mark) (o : Out Answer) → MarkedAs l R R' o m → MarkedAs l S S' o n → (m ≡ n) × SameIf l R' S' m
-as-marked l R R' S S' m n (refused k p) h z = (h .0 ∙ sym (z .0), subst⁻¹ (SameIf l R' S') (h .0) tt)
+as-marked l R R' S S' m n (stop r) h z = (h .0 ∙ sym (z .0), subst⁻¹ (SameIf l R' S') (h .0) tt)
 as-marked l R R' S S' m n (ok a st) h z =
     (h .0 ∙ sym (z .0), subst⁻¹ (SameIf l R' S') (h .0) (same-tree l R' S' a st st (countsOf a st) refl refl (h .1 .holds) (z .1 .holds)))
 

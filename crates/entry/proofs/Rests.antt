@@ -1,14 +1,14 @@
 -- Rooms that are emptied, wholly or from some byte on. Assumes nothing.
-use mathlib.Core.Path.{_≡_, refl, ap, ap₂, sym, subst, _∙_}
+use mathlib.Core.Path.{_≡_, ap, ap₂, sym, _∙_}
 use mathlib.Core.List.{List, [], _∷_, _++_, append-assoc}
-use Prim.Native.Nat.{ℕ, min, _+_, _-_, _*_, _<_, _≤_}
+use Prim.Native.Nat.{ℕ, _+_, _-_, _*_, _<_, _≤_}
 use native.Mathlib.Omega.{arith}
 use lib.ListN.{length, getD, take, drop, replicate, length-append, length-drop, length-replicate, take-append-drop, List·getD-append, replicate-append-replicate}
 use lib.Seq.{length-take-le, getD-take, drop-append-le, drop-drop, drop-at}
-use Rattle.numbers.specs.Records.{wordAt, recordAt, Same}
+use Rattle.numbers.specs.Records.{wordAt, recordAt}
 use Rattle.numbers.specs.Rooms.{cleared}
 use Rattle.numbers.proofs.Rooms.{cleared-within, cleared-all}
-use Rattle.step.specs.Trees.{goalAt, SameGoals}
+use Rattle.step.specs.Trees.{goalAt}
 use Rattle.entry.specs.Rest.{Trimmed}
 
 -- CLEARED. A room of just n bytes

@@ -1,25 +1,21 @@
 -- The root of a table that passes its tests is run as the rules run it. Assumes nothing.
-use mathlib.Core.Path.{_≡_, refl, ap, ap₂, sym, subst, _∙_}
-use mathlib.Core.List.{List, []}
-use Prim.Native.Nat.{ℕ, _+_, _*_, _<_, _≤_}
+use mathlib.Core.Path.{_≡_, ap, ap₂, sym, subst, _∙_}
+use mathlib.Core.List.{List}
+use Prim.Native.Nat.{ℕ, _<_, _≤_}
 use native.Mathlib.Omega.{arith}
 use lib.ListN.{length}
-use Rattle.numbers.specs.declared.Sort.{Sort}
 use Rattle.numbers.specs.declared.Sort.the-variants as sort
-use Rattle.numbers.specs.Records.{recordAt, Same}
 use Rattle.layout.specs.File.{props, terms, expected}
 use Rattle.rules.specs.Prop.{Ty, prop}
 use Rattle.rules.specs.Context.{Ctx}
-use Rattle.rules.specs.State.{limit, start}
 use Rattle.rules.specs.Term.{nodes}
 use Rattle.rules.specs.Tree.{records, holes}
-use Rattle.rules.specs.Step.{check, Out, refused, ok, Answer}
+use Rattle.rules.specs.Step.{check, Out, Answer}
 use Rattle.rules.specs.Rules.{run}
-use Rattle.rules.proofs.Spent.{Spent, run-spends}
+use Rattle.rules.proofs.Spent.{run-spends}
 use Rattle.table.specs.declared.Purpose.the-variants.{Check}
-use Rattle.table.specs.Tests.{test-room}
 use Rattle.table.specs.Passing.{Counted, Formed, WellLinked, Good}
-use Rattle.table.specs.Reading.{propAt, termAt}
+use Rattle.table.specs.Reading.{termAt}
 use Rattle.table.proofs.Counting.{nodes-root}
 use Rattle.table.proofs.Links.{expected-in}
 use Rattle.table.proofs.Passing.{good-passed}
@@ -28,12 +24,13 @@ use Rattle.context.proofs.Laws.{ctx-none}
 use Rattle.arena.specs.Copy.{most-records}
 use Rattle.arena.specs.Load as load
 use Rattle.step.specs.declared.state.State.{State}
-use Rattle.step.specs.declared.state.Checked.{Checked}
-use Rattle.step.specs.declared.state.Checked.the-variants as checked
-use Rattle.step.specs.Rooms.{Rooms, rooms, reads, ctxOf, stOf, countOf, Loaded}
-use Rattle.step.specs.Contract.{Ready, Accepts, CheckMeets, runOf}
+use Rattle.step.specs.declared.state.Ran.{Ran as Outcome}
+use Rattle.step.specs.declared.state.Ran.the-variants as outcome
+use Rattle.step.specs.declared.state.Want.the-variants as want
+use Rattle.step.specs.Rooms.{Rooms, reads, stOf, countOf, Loaded}
+use Rattle.step.specs.Contract.{Ready, Accepts, RanAs as Meets, runOf}
 use Rattle.step.proofs.Starts.{nothing, ready-root}
-use Rattle.entry.specs.Mark.{root-run, Holds}
+use Rattle.entry.specs.Mark.{start-of, root-run}
 use Rattle.entry.specs.Ran.{Exact, Ran, RanAs}
 
 module _ (l : List ℕ) (good : Good Check l) where
@@ -68,7 +65,7 @@ module _ (l : List ℕ) (good : Good Check l) where
     -- the code's run is the rules'
     root-is : runOf l R 0 (check (reads l (R .props) (sort.Proposition (record { 0 = expected l })))) nothing ≡ root-run l
     root-is =
-        ap₂ (λ (A : Ty) (Γ : Ctx). run (termAt l 0) (check A) Γ start) (ap prop (loaded .means (expected l) (expected-in (good-passed good .linked))))
+        ap₂ (λ (A : Ty) (Γ : Ctx). run (termAt l 0) (check A) Γ (start-of l)) (ap prop (loaded .means (expected l) (expected-in (good-passed good .linked))))
         (ctx-none (reads l (R .props)) (R .work))
 
     fits : (R' : Rooms) (st : State) → Accepts l R R' nothing st (root-run l) → Ran l (root-run l) R' st
@@ -93,9 +90,9 @@ module _ (l : List ℕ) (good : Good Check l) where
           goals = omega (arith, left .goals);
         }
 
-    as-ran : (R' : Rooms) (r : Checked) → CheckMeets l R R' 0 (sort.Proposition (record { 0 = expected l })) nothing r → RanAs l (root-run l) R' r
-    as-ran R' (checked.Fits st) h = fits R' st (subst (λ (o : Out Answer). Accepts l R R' nothing st o) root-is h)
-    as-ran R' (checked.Refused n p) h = sym root-is ∙ h
+    as-ran : (R' : Rooms) (r : Outcome) → Meets l R R' 0 (want.Check (sort.Proposition (record { 0 = expected l }))) nothing r → RanAs l (root-run l) R' r
+    as-ran R' (outcome.Has T st) h = fits R' st (subst (λ (o : Out Answer). Accepts l R R' nothing st o) root-is (h .accepted))
+    as-ran R' (outcome.Refused r) h = sym root-is ∙ h
 
-    pub ran : (R' : Rooms) (r : Checked) (n : ℕ) → n ≡ expected l → CheckMeets l R R' 0 (sort.Proposition (record { 0 = n })) nothing r → RanAs l (root-run l) R' r
-    ran R' r n e h = as-ran R' r (subst (λ (n : ℕ). CheckMeets l R R' 0 (sort.Proposition (record { 0 = n })) nothing r) e h)
+    pub ran : (R' : Rooms) (r : Outcome) (n : ℕ) → n ≡ expected l → Meets l R R' 0 (want.Check (sort.Proposition (record { 0 = n }))) nothing r → RanAs l (root-run l) R' r
+    ran R' r n e h = as-ran R' r (subst (λ (n : ℕ). Meets l R R' 0 (want.Check (sort.Proposition (record { 0 = n }))) nothing r) e h)

@@ -9,9 +9,10 @@ use Rattle.numbers.specs.Records.{recordAt}
 use Rattle.numbers.specs.Rooms.{cleared}
 use Rattle.layout.specs.File.{props, expected}
 use Rattle.rules.specs.Prop.{prop}
+use Rattle.rules.specs.Context.{Ctx}
 use Rattle.rules.specs.State.{St, start}
 use Rattle.rules.specs.Tree.{records, holes}
-use Rattle.rules.specs.Step.{check, Out, refused, ok, Answer}
+use Rattle.rules.specs.Step.{check, Out, stop, refused, ok, Answer}
 use Rattle.rules.specs.Rules.{run}
 use Rattle.table.specs.declared.Purpose.the-variants.{Check}
 use Rattle.table.specs.declared.Verdict.{Verdict}
@@ -44,9 +45,16 @@ unfoldable pub long-enough : Rooms → Bool
 long-enough R =
     leb tree-bytes (length (R .tree)) && (leb goals-bytes (length (R .goals)) && (leb props-bytes (length (R .props)) && leb work-bytes (length (R .work))))
 
--- WHAT THE RULES SAY: the root, held to the expected proposition in the empty context, with nothing made
+-- WHERE A RUN OF THE TABLE STARTS: in the empty context, with nothing made
+abbrev pub context-of : List ℕ → Ctx
+context-of l = []
+
+abbrev pub start-of : List ℕ → St
+start-of l = start
+
+-- WHAT THE RULES SAY: the root, held to the expected proposition from there
 abbrev pub root-run : List ℕ → Out Answer
-root-run l = run (termAt l 0) (check (prop (propAt l (expected l)))) [] start
+root-run l = run (termAt l 0) (check (prop (propAt l (expected l)))) (context-of l) (start-of l)
 
 -- WHAT DOCUMENT 01 SAYS of these bytes: the rooms first, then the table's tests, then the rules
 unfoldable pub unless-refused : Verdict → Out Answer → Out Answer
@@ -87,7 +95,7 @@ countsOf a st = record { records = records (a .tree); goals = holes (a .tree); s
 
 -- THE MARK
 abbrev pub MarkedAs : (l : List ℕ) → (R R' : Rooms) → Out Answer → Mark → Type 0
-MarkedAs l R R' (refused n p) m = (m ≡ mark.Refused n p) × Emptied R R'
+MarkedAs l R R' (stop r) m = (m ≡ mark.Refused (r .number) (r .place)) × Emptied R R'
 MarkedAs l R R' (ok a st) m = (m ≡ mark.Accepted (countsOf a st)) × Kept l R R' a st
 
 abbrev pub Marks : (l : List ℕ) → (R R' : Rooms) → Mark → Type 0

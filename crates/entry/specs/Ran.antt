@@ -4,11 +4,12 @@ use mathlib.Core.List.{List}
 use Prim.Native.Nat.{ℕ}
 use lib.ListN.{length}
 use Rattle.rules.specs.Tree.{records, holes}
-use Rattle.rules.specs.Step.{Out, refused, ok, Answer}
+use Rattle.rules.specs.Step.{Out, ok, Answer}
 use Rattle.step.specs.declared.state.State.{State}
-use Rattle.step.specs.declared.state.Checked.{Checked}
-use Rattle.step.specs.declared.state.Checked.the-variants as checked
+use Rattle.step.specs.declared.state.Ran.{Ran as Outcome}
+use Rattle.step.specs.declared.state.Ran.the-variants as ran
 use Rattle.step.specs.Rooms.{Rooms, stOf}
+use Rattle.step.specs.Contract.{Refuses}
 use Rattle.entry.specs.Mark.{tree-bytes, goals-bytes, props-bytes, work-bytes, Holds}
 
 -- rooms of just the listed sizes
@@ -26,6 +27,6 @@ pub record Ran (l : List ℕ) (o : Out Answer) (R : Rooms) (st : State) : Type 0
   pub records : st .records ≡ records (answer .tree)
   pub goals : st .goals ≡ holes (answer .tree)
 
-abbrev pub RanAs : List ℕ → Out Answer → Rooms → Checked → Type 0
-RanAs l o R (checked.Fits st) = Ran l o R st
-RanAs l o R (checked.Refused n p) = o ≡ refused n (p .0)
+abbrev pub RanAs : List ℕ → Out Answer → Rooms → Outcome → Type 0
+RanAs l o R (ran.Has T st) = Ran l o R st
+RanAs l o R (ran.Refused r) = Refuses o r

@@ -9,7 +9,6 @@ ghost use Rattle.step.specs.Rooms.{rooms};
 ghost use Rattle.entry.specs.Mark.{«root-run», «table-run», MarkedAs, Marks};
 ghost use Rattle.entry.specs.Ran.{Exact, RanAs};
 use arena::load::load;
-use checker::chk;
 use layout::header::expected_field;
 use numbers::Sort;
 use numbers::Term;
@@ -20,7 +19,7 @@ use rooms::WORK;
 use rooms::clear_rest;
 use rooms::clear_rooms;
 use rooms::long_enough;
-use step::state::Checked;
+use step::state::Ran;
 use step::state::State;
 use step::state::count_of;
 use table::Purpose;
@@ -44,13 +43,13 @@ pub enum Mark {
 }
 
 // The run of a table that passes its tests: its root, held to what it expects, with nothing made yet and an empty context.
-fn run(file: &[u8], tree: &mut [u8], goals: &mut [u8], props: &mut [u8], work: &mut [u8]) -> Checked
+fn run(file: &[u8], tree: &mut [u8], goals: &mut [u8], props: &mut [u8], work: &mut [u8]) -> Ran
     requires { ⌜ Good Check (now file) ⌝ }
     requires { ⌜ Exact (rooms (now tree) (now goals) (now props) (now work)) ⌝ }
     ensures { λ r. ⌜ RanAs (now (file .entry)) («root-run» (now (file .entry))) (rooms (now (tree .exit)) (now (goals .exit)) (now (props .exit)) (now (work .exit))) r ⌝ }
 {
     load(file, work, props);
-    chk::check(
+    checker::check(
         file,
         tree,
         goals,
@@ -75,7 +74,7 @@ fn finish(
     goals: &mut [u8],
     props: &mut [u8],
     work: &mut [u8],
-    answer: Checked,
+    answer: Ran,
 ) -> Mark
     requires { ⌜ 16 ≤ length (now file) ⌝ }
     requires { ⌜ Exact (rooms (now tree) (now goals) (now props) (now work)) ⌝ }
@@ -83,11 +82,11 @@ fn finish(
     ensures { λ m. ⌜ MarkedAs (now (file .entry)) (rooms (now (tree .entry)) (now (goals .entry)) (now (props .entry)) (now (work .entry))) (rooms (now (tree .exit)) (now (goals .exit)) (now (props .exit)) (now (work .exit))) («root-run» (now (file .entry))) m ⌝ }
 {
     match answer {
-        Checked::Refused(n, place) => {
+        Ran::Refused(e) => {
             clear_rooms(tree, goals, props, work);
-            Mark::Refused(n, place.0)
+            Mark::Refused(e.number, e.place)
         }
-        Checked::Fits(st) => {
+        Ran::Has(_, st) => {
             let count = count_of(file, st);
             clear_rest(tree, goals, props, work, st.records, st.goals, count);
             Mark::Accepted(Counts {

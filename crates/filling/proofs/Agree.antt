@@ -3,16 +3,16 @@
 use mathlib.Core.Path.{_≡_, refl, ap, ap₂, subst, subst⁻¹, _∙_}
 use mathlib.Core.Bool.{Bool, true, false, cond}
 use mathlib.Core.Logic.{_⊎_, inl, inr}
-use mathlib.Core.List.{List, []}
+use mathlib.Core.List.{List}
 use Prim.Native.Nat.{ℕ, suc, _+_, _-_, _<_, _≤_}
 use native.Mathlib.Omega.{arith}
 use borrow.Author.Tests.{lt-ltb}
 use Rattle.layout.specs.File.{expected}
 use Rattle.rules.specs.Prop.{Prop, prop}
-use Rattle.rules.specs.State.{St, limit, start, later}
+use Rattle.rules.specs.State.{St, limit, later}
 use Rattle.rules.specs.Term.{Term, plug}
 use Rattle.rules.specs.Tree.{Gap, Trees, end, gap, node, move, records, holes}
-use Rattle.rules.specs.Step.{check, Out, refused, ok, Answer}
+use Rattle.rules.specs.Step.{check, Out, stop, refused, ok, Answer}
 use Rattle.rules.specs.Rules.{run}
 use Rattle.rules.specs.Filling.{At, here, past-gap, past-node, within, graft, lift, filled, RunsAfter, Over, Limited, Follows, at-goal}
 use Rattle.rules.proofs.Spent.{records-beside, holes-beside}
@@ -34,7 +34,7 @@ use Rattle.entry.specs.declared.Counts.{Counts}
 use Rattle.entry.specs.declared.Mark.{Mark}
 use Rattle.entry.specs.declared.Mark.the-variants as mark
 use Rattle.entry.proofs.Answers.{table-ok}
-use Rattle.entry.specs.Mark.{long-enough, root-run, unless-refused, table-run, outcome, countsOf, MarkedAs, Marks}
+use Rattle.entry.specs.Mark.{long-enough, context-of, start-of, root-run, unless-refused, table-run, outcome, countsOf, MarkedAs, Marks}
 use Rattle.filling.specs.declared.answer.Filled.{Filled}
 use Rattle.filling.specs.declared.answer.Filled.the-variants as fill
 use Rattle.filling.specs.Fill.{Lent, all-long, Accepts, countsFrom, RunAs, EditedAs, Goal, GoalAs, FillingAs, OldAs, RoomsAs, Fills}
@@ -84,10 +84,10 @@ own-made g b st d e =
 
 -- THE EDITED TABLE'S ROOT is the old one with the filling in the gap's place, held to the same proposition
 root-edited : {old f : List ℕ} {q : ℕ} (h : Fillable old f q) {e : List ℕ} → Edited old f q e
-    → root-run e ≡ run (plug q (termAt e q) (termAt old 0)) (check (prop (propAt old (expected old)))) [] start
+    → root-run e ≡ run (plug q (termAt e q) (termAt old 0)) (check (prop (propAt old (expected old)))) (context-of old) (start-of old)
 root-edited {old = old} h {e} E =
     let o = good-passed (h .old-good) in
-    ap₂ (λ (t : Term) (P : Prop). run t (check (prop P)) [] start) (filled-term h E 0 (o .counted .some))
+    ap₂ (λ (t : Term) (P : Prop). run t (check (prop P)) (context-of old) (start-of old)) (filled-term h E 0 (o .counted .some))
     (ap (propAt e) (expected-joined E) ∙ whole-prop h E (expected old) (expected-in (o .linked)))
 
 -- THE FRESH CHECK
@@ -142,7 +142,7 @@ module _ {S S' : Lent} {l f : List ℕ} {k : ℕ} {a : Answer} {r : Filled} (z :
 
   -- whatever the filling's run says
   agrees-run : (v o : Out Answer) → own-run ≡ v → RunAs S S' (z .table) (z .goal) r v → Marked o → Follows Behind (z .goal) whole st o v → AgreesWith r
-  agrees-run (refused n p) o ran y w v = let x = subst Marked v w in subst⁻¹ AgreesWith (y .answer) (refl, x .0, x .1)
+  agrees-run (stop s) o ran y w v = let x = subst Marked v w in subst⁻¹ AgreesWith (y .answer) (refl, x .0, x .1)
   agrees-run (ok b st₂) o ran y w (d, e, v) = agrees-accepted b st₂ d ran y e o w v
 
   module _ (good : Good Check l) (fills : Good Filling f) (accepted : root-run l ≡ ok a st) where
@@ -173,7 +173,7 @@ accepted-mark l Q Q' c w = at (long-enough Q) (table-run l) refl w
   where
     at : (b : Bool) (o : Out Answer) → table-run l ≡ o → MarkedAs l Q Q' (cond b o (refused 1 0)) (mark.Accepted c) → FirstCheck l Q Q' c
     at true (ok a st) e w = let x = w .0 in record { answer = a; state = st; run = e; counts = cc; rooms = w .1 }
-    at true (refused n p) e w = absurd (let x = w .0 in let z : _≡_ {A = ℕ} 0 1 = cc in omega arith)
+    at true (stop s) e w = absurd (let x = w .0 in let z : _≡_ {A = ℕ} 0 1 = cc in omega arith)
     at false o e w = absurd (let x = w .0 in let z : _≡_ {A = ℕ} 0 1 = cc in omega arith)
 
 filled-goal : (l f : List ℕ) (k : ℕ) (S S' : Lent) (r : Filled) (a : Answer) (st : St) → Fills S S' l f k r → all-long S ≡ true → table-run l ≡ ok a st

@@ -1,21 +1,21 @@
 -- After the filling's run: the answer, and rooms that are clean. Assumes nothing.
-use mathlib.Core.Path.{_≡_, refl, ap, ap₂, sym, subst, subst⁻¹, _∙_}
+use mathlib.Core.Path.{_≡_, ap, ap₂, sym, subst, subst⁻¹, _∙_}
 use mathlib.Core.List.{List}
-use Prim.Native.Nat.{ℕ, _+_, _-_, _*_, _<_, _≤_}
+use Prim.Native.Nat.{ℕ, _-_, _*_, _<_, _≤_}
 use native.Mathlib.Omega.{arith}
-use lib.ListN.{length, getD, take}
+use lib.ListN.{length, take}
 use lib.Seq.{length-take-le, getD-take, ext-getD}
-use Rattle.numbers.specs.declared.Term.{Term}
+use Rattle.numbers.specs.declared.Sort.{Sort}
+use Rattle.numbers.specs.declared.refusal.Refusal.{Refusal}
 use Rattle.numbers.specs.Rooms.{cleared}
-use Rattle.rules.specs.State.{St}
 use Rattle.rules.specs.Tree.{Gap, records, holes}
-use Rattle.rules.specs.Step.{Out, refused, ok, Answer}
+use Rattle.rules.specs.Step.{Out, Answer}
 use Rattle.editing.specs.Edited.{edited-bytes}
 use Rattle.arena.specs.Copy.{most-records}
 use Rattle.step.specs.declared.state.State.{State}
-use Rattle.step.specs.declared.state.Checked.{Checked}
-use Rattle.step.specs.declared.state.Checked.the-variants as checked
-use Rattle.step.specs.Rooms.{Rooms, stOf, countOf}
+use Rattle.step.specs.declared.state.Ran.{Ran as Outcome}
+use Rattle.step.specs.declared.state.Ran.the-variants as ran
+use Rattle.step.specs.Rooms.{Rooms, countOf}
 use Rattle.entry.specs.Mark.{tree-bytes, goals-bytes, props-bytes}
 use Rattle.entry.specs.Rest.{Trimmed, Rest}
 use Rattle.entry.specs.Ran.{Exact, Ran, RanAs}
@@ -23,11 +23,11 @@ use Rattle.entry.proofs.Marks.{kept-rest}
 use Rattle.filling.specs.declared.answer.Which.the-variants.{Edit}
 use Rattle.filling.specs.declared.answer.Filled.{Filled}
 use Rattle.filling.specs.declared.answer.Filled.the-variants as filled
-use Rattle.filling.specs.Fill.{Lent, Refuses, countsFrom, Accepts, RunAs}
+use Rattle.filling.specs.Fill.{Lent, Refuses, RunAs}
 use Rattle.filling.specs.Steps.{Fitting}
 
 -- WHAT THE CLEANING ASKS FOR
-module _ (e : List ℕ) (size serials : ℕ) (R : Rooms) (r : Checked) (st : State) (is : r ≡ checked.Fits st) (fits : Fitting e size serials R r) where
+module _ (e : List ℕ) (size serials : ℕ) (R : Rooms) (r : Outcome) (T : Sort) (st : State) (is : r ≡ ran.Has T st) (fits : Fitting e size serials R r) where
   pub within : (16 ≤ size) × (countOf e st ≤ most-records) × (16 * st .records ≤ tree-bytes) × (8 * st .goals ≤ goals-bytes) × (serials ≤ st .serials)
   within = subst (Fitting e size serials R) is fits
 
@@ -49,16 +49,16 @@ table-kept size n old new h t =
     ext-getD 0 (take size new) (take size old) (b ∙ sym a)
     (λ i k. let low : i < size = omega arith in getD-take size new i 0 low ∙ t .kept i low ∙ sym (getD-take size old i 0 low))
 
-module _ (S S' : Lent) (size serials : ℕ) (g : Gap) (o : Out Answer) (begun : g .state .serials ≡ serials) (answer : Checked) (ran : RanAs (take size (S .edited)) o (S .rooms) answer) (r : Filled) where
-  pub run-refused : (n : ℕ) (p : Term) → answer ≡ checked.Refused n p → Refuses S S' n (p .0) Edit r → RunAs S S' (take size (S .edited)) g r o
-  run-refused n p e z = subst⁻¹ (RunAs S S' (take size (S .edited)) g r) (subst (RanAs (take size (S .edited)) o (S .rooms)) e ran) z
+module _ (S S' : Lent) (size serials : ℕ) (g : Gap) (o : Out Answer) (begun : g .state .serials ≡ serials) (answer : Outcome) (came : RanAs (take size (S .edited)) o (S .rooms) answer) (r : Filled) where
+  pub run-refused : (x : Refusal) → answer ≡ ran.Refused x → Refuses S S' (x .number) (x .place) Edit r → RunAs S S' (take size (S .edited)) g r o
+  run-refused x e z = subst⁻¹ (RunAs S S' (take size (S .edited)) g r) (subst (RanAs (take size (S .edited)) o (S .rooms)) e came) z
 
-  pub run-accepted : (st : State) (c : ℕ) → answer ≡ checked.Fits st → size ≤ length (S .edited) → c ≡ countOf (take size (S .edited)) st
+  pub run-accepted : (T : Sort) (st : State) (c : ℕ) → answer ≡ ran.Has T st → size ≤ length (S .edited) → c ≡ countOf (take size (S .edited)) st
       → Rest (st .records) (st .goals) c (S .rooms) (S' .rooms) → Trimmed size edited-bytes (S .edited) (S' .edited)
       → r ≡ filled.Accepted (record { records = st .records; goals = st .goals; serials = st .serials - serials; made = st .made })
       → RunAs S S' (take size (S .edited)) g r o
-  run-accepted st c e fit k z t a =
-      let w : Ran (take size (S .edited)) o (S .rooms) st = subst (RanAs (take size (S .edited)) o (S .rooms)) e ran in
+  run-accepted T st c e fit k z t a =
+      let w : Ran (take size (S .edited)) o (S .rooms) st = subst (RanAs (take size (S .edited)) o (S .rooms)) e came in
       let long = length-take-le size (S .edited) fit in
       subst⁻¹ (RunAs S S' (take size (S .edited)) g r) (w .accepts)
       (record {

@@ -3,16 +3,15 @@
 use mathlib.Core.Path.{_≡_, ap, sym, subst⁻¹, _∙_}
 use mathlib.Core.Bool.{Bool, true, false, _&&_}
 use mathlib.Core.List.{List, [], _++_}
-use Prim.Native.Nat.{ℕ, min, _≤_}
+use Prim.Native.Nat.{ℕ, _≤_}
 use native.Mathlib.Omega.{arith}
 use borrow.Author.Tests.{leb-true}
 use lib.ListN.{length, take, drop, length-take}
 use lib.Dec.{leb, ltb}
 use lib.Seq.{length-take-le, take-append-le}
-use Rattle.numbers.specs.Rooms.{cleared}
 use Rattle.rules.specs.State.{St}
 use Rattle.rules.specs.Tree.{Gap, holes}
-use Rattle.rules.specs.Step.{Out, refused, ok, Answer}
+use Rattle.rules.specs.Step.{Out, stop, ok, Answer}
 use Rattle.rules.specs.Filling.{at-goal}
 use Rattle.table.specs.declared.Purpose.the-variants as purpose
 use Rattle.table.specs.declared.Verdict.{Verdict}
@@ -20,9 +19,8 @@ use Rattle.table.specs.declared.Verdict.the-variants as verdict
 use Rattle.table.specs.Tests.{tests}
 use Rattle.table.specs.Reading.{termAt}
 use Rattle.editing.specs.Edited.{edited-bytes, edited-tests}
-use Rattle.step.specs.Rooms.{Rooms, rooms}
+use Rattle.step.specs.Rooms.{rooms}
 use Rattle.entry.specs.Mark.{tree-bytes, goals-bytes, props-bytes, work-bytes, long-enough, table-run}
-use Rattle.entry.specs.Ran.{Exact}
 use Rattle.entry.proofs.Rests.{cleared-exact, cleared-parts, cleared-front}
 use Rattle.entry.proofs.Answers.{both-true}
 use Rattle.entry.proofs.Marks as marks
@@ -40,7 +38,7 @@ pub record Carries (S S' T T' : Lent) : Type 0 where
 -- then so does every stage
 module _ {S S' T T' : Lent} (c : Carries S S' T T') where
   pub run-on : (e : List ℕ) (g : Gap) (r : Filled) (o : Out Answer) → RunAs S S' e g r o → RunAs T T' e g r o
-  run-on e g r (refused n p) z = c .refuses z
+  run-on e g r (stop s) z = c .refuses z
   run-on e g r (ok b st) z = c .accepts z
 
   pub edited-on : (e : List ℕ) (g : Gap) (r : Filled) (v : Verdict) → EditedAs S S' e g r v → EditedAs T T' e g r v
@@ -68,7 +66,7 @@ module _ {S S' T T' : Lent} (c : Carries S S' T T') where
   filling-on l f k a r verdict.Passes z = choice-on l f k a r (ltb k (holes (a .tree))) z
 
   pub old-on : (l f : List ℕ) (k : ℕ) (r : Filled) (o : Out Answer) → OldAs S S' l f k r o → OldAs T T' l f k r o
-  old-on l f k r (refused n p) z = c .refuses z
+  old-on l f k r (stop s) z = c .refuses z
   old-on l f k r (ok a st) z = filling-on l f k a r (tests purpose.Filling f) z
 
 -- ROOMS OF JUST THE LISTED SIZES

@@ -10,7 +10,7 @@ use lib.Dec.{ltb}
 use Rattle.rules.specs.State.{St}
 use Rattle.rules.specs.Term.{sorries}
 use Rattle.rules.specs.Tree.{Gap, goals, holes}
-use Rattle.rules.specs.Step.{Out, refused, ok, Answer}
+use Rattle.rules.specs.Step.{Out, stop, ok, Answer}
 use Rattle.rules.specs.Filling.{before, at-goal}
 use Rattle.rules.proofs.Goals.{goals-in-order}
 use Rattle.rules.proofs.Spent.{holes-goals}
@@ -70,7 +70,7 @@ module _ (l f : List ℕ) (k : ℕ) where
   by-filling good a st run verdict.Passes e = by-number good e a st run (ltb k (holes (a .tree)))
 
   by-old : (o : Out Answer) → table-run l ≡ o → Alike (λ S S' r. OldAs S S' l f k r o)
-  by-old (refused n p) e = inl record { number = n; place = p; in-table = which.Old; so = λ S S' r x. x }
+  by-old (stop s) e = inl record { number = s .number; place = s .place; in-table = which.Old; so = λ S S' r x. x }
   by-old (ok a st) e = let z = table-ok l a st e in by-filling (z .0) a st (z .1) (tests Filling f) refl
 
   by-rooms : (b : Bool) → Alike (λ S S' r. RoomsAs S S' l f k r b)
@@ -87,7 +87,7 @@ module _ (l f : List ℕ) (k : ℕ) (S S' : Lent) (c : Counts) where
   not-refused x = absurd (let y = x .answer in let z : _≡_ {A = ℕ} 0 1 = cc in omega arith)
 
   kept-run : (e : List ℕ) (g : Gap) (o : Out Answer) → RunAs S S' e g (filled.Accepted c) o → take (length e) (S' .edited) ≡ e
-  kept-run e g (refused n p) x = not-refused x
+  kept-run e g (stop s) x = not-refused x
   kept-run e g (ok b st) x = x .table
 
   kept : (e : List ℕ) (g : Gap) (v : Verdict) → EditedAs S S' e g (filled.Accepted c) v → (v ≡ verdict.Passes) × (take (length e) (S' .edited) ≡ e)
@@ -138,7 +138,7 @@ module _ (l f : List ℕ) (k : ℕ) (S S' Z Z' : Lent) (r s : Filled) where
   -- with one edited table and one goal
   module _ (e : List ℕ) (size : length e ≡ edited-size l f) (g : Gap) where
     same-run : (o : Out Answer) → RunAs S S' e g r o → RunAs Z Z' e g s o → Same
-    same-run (refused n p) x y = both-refuse x y
+    same-run (stop q) x y = both-refuse x y
     same-run (ok b st) x y =
         let c = countsFrom g b st in
         let a = table-left l f e S' size (x .table) in (

@@ -1,22 +1,19 @@
 -- The old terms run over the edited table's propositions as they ran over their own, and the goal that is asked for has its picture. Assumes nothing.
 use mathlib.Core.Path.{_≡_, ap, ap₂, sym, subst, subst⁻¹, _∙_}
 use mathlib.Core.Bool.{false≢true}
-use mathlib.Core.List.{List, []}
+use mathlib.Core.List.{List}
 use Prim.Native.Nat.{ℕ, _+_, _*_, _<_, _≤_}
 use native.Mathlib.Omega.{arith}
 use lib.ListN.{length}
-use Rattle.numbers.specs.declared.Sort.{Sort}
 use Rattle.numbers.specs.declared.Sort.the-variants as sort
-use Rattle.numbers.specs.Limits.{most-propositions, most-terms}
 use Rattle.numbers.specs.declared.record.Record.{Record}
-use Rattle.numbers.specs.Records.{recordAt, Put, Same}
+use Rattle.numbers.specs.Records.{Put, Same}
 use Rattle.layout.specs.File.{props, terms, expected}
-use Rattle.rules.specs.Prop.{Ty, Prop, prop}
+use Rattle.rules.specs.Prop.{Prop, prop}
 use Rattle.rules.specs.Context.{Ctx}
-use Rattle.rules.specs.State.{St, start}
 use Rattle.rules.specs.Term.{Term, nodes}
 use Rattle.rules.specs.Tree.{Gap}
-use Rattle.rules.specs.Step.{check, Out, refused, ok, Answer}
+use Rattle.rules.specs.Step.{check, Out, Answer}
 use Rattle.rules.specs.Rules.{run}
 use Rattle.rules.specs.Filling.{At, before}
 use Rattle.rules.proofs.Spent.{Reached, gap-reached}
@@ -26,7 +23,7 @@ use Rattle.table.specs.Reading.{propAt, termAt}
 use Rattle.table.proofs.Counting.{nodes-root}
 use Rattle.table.proofs.Links.{expected-in}
 use Rattle.table.proofs.Passing.{Passed, good-passed}
-use Rattle.editing.specs.Edited.{termBytes, all-props, all-terms, Bytes, Fillable, Joined, Edited}
+use Rattle.editing.specs.Edited.{termBytes, Bytes, Fillable, Joined, Edited}
 use Rattle.editing.proofs.Joins.{props-joined, terms-joined, expected-joined}
 use Rattle.editing.proofs.Edits.{stays, replaces, whole-prop, whole-counted, whole-formed, whole-directed, waiting-term, edited-in-order}
 use Rattle.editing.proofs.Alike.{joined-counts, joined-props, edited-unique, hole-nodes}
@@ -38,15 +35,16 @@ use Rattle.context.proofs.Laws.{ctx-none}
 use Rattle.arena.specs.Load as load
 use Rattle.step.specs.declared.picture.Start.{Start}
 use Rattle.step.specs.declared.state.State.{State}
-use Rattle.step.specs.declared.state.Checked.{Checked}
-use Rattle.step.specs.declared.state.Checked.the-variants as checked
+use Rattle.step.specs.declared.state.Ran.{Ran as Outcome}
+use Rattle.step.specs.declared.state.Ran.the-variants as ran
+use Rattle.step.specs.declared.state.Want.the-variants as want
 use Rattle.step.specs.Rooms.{Rooms, rooms, reads, ctxOf, countOf, Loaded, first-pictured}
 use Rattle.step.specs.Picture.{asked, picturedState, picturedType, PictureIs, PicturesAre, Copied, StartsAt}
-use Rattle.step.specs.Contract.{Ready, Accepts, CheckedAs, CheckMeets, runOf}
+use Rattle.step.specs.Contract.{Ready, Accepts, RanAs as Meets, runOf}
 use Rattle.step.proofs.Pictures.{picture-at, recalled}
 use Rattle.step.proofs.Starts.{nothing}
 use Rattle.step.proofs.Goals.{goal-unique, picture-moved, ready-hole}
-use Rattle.entry.specs.Mark.{root-run}
+use Rattle.entry.specs.Mark.{context-of, start-of, root-run}
 use Rattle.entry.specs.Ran.{Exact}
 use Rattle.filling.specs.Steps.{GoalOf, ReachedFor}
 use Rattle.entry.proofs.Answers.{is-ok, same-answer}
@@ -143,22 +141,19 @@ module _ {l f : List ℕ} {q : ℕ} {e : List ℕ} (h : Fillable l f q) (E : Edi
       root-is n k =
           let n-in : n < props j = omega (arith, wants n k) in
           let old-in : expected l < props l = expected-in (o .linked) in
-          ap (λ (t : Term). run t (check (prop (roomAt (props j) (R .props) n))) (ctxOf j (R .props) (R .work) 0) start) old-terms
-          ∙ ap₂ (λ (A : Prop) (Γ : Ctx). run (termAt l 0) (check (prop A)) Γ start)
+          ap (λ (t : Term). run t (check (prop (roomAt (props j) (R .props) n))) (ctxOf j (R .props) (R .work) 0) (start-of l)) old-terms
+          ∙ ap₂ (λ (A : Prop) (Γ : Ctx). run (termAt l 0) (check (prop A)) Γ (start-of l))
           (waiting-loaded .table n n-in ∙ ap (propAt j) (k ∙ expected-joined J) ∙ whole-prop h J (expected l) old-in)
           (ctx-none (reads j (R .props)) (R .work))
 
-      module _ (R' : Rooms) (r : Checked) (n : ℕ) (k : n ≡ expected j) (meets : CheckMeets j R R' 0 (sort.Proposition (record { 0 = n })) nothing r) (number : ℕ) (asks : asked (R .work) ≡ number)
+      module _ (R' : Rooms) (r : Outcome) (n : ℕ) (k : n ≡ expected j) (meets : Meets j R R' 0 (want.Check (sort.Proposition (record { 0 = n }))) nothing r) (number : ℕ) (asks : asked (R .work) ≡ number)
           (g : Gap) (goal : GoalOf l number g) where
-        as-old : CheckedAs j R R' nothing (root-run l) r
-        as-old = subst (λ (o : Out Answer). CheckedAs j R R' nothing o r) (root-is n k) meets
-
         pub accepts : (st : State) × Accepts j R R' nothing st (root-run l)
-        accepts = at r as-old
+        accepts = at r meets
           where
-            at : (r : Checked) → CheckedAs j R R' nothing (root-run l) r → (st : State) × Accepts j R R' nothing st (root-run l)
-            at (checked.Fits st) h = (st, h)
-            at (checked.Refused n p) h = absurd (false≢true (ap is-ok (sym h ∙ goal .accepts)))
+            at : (r : Outcome) → Meets j R R' 0 (want.Check (sort.Proposition (record { 0 = n }))) nothing r → (st : State) × Accepts j R R' nothing st (root-run l)
+            at (ran.Has T st) h = (st, subst (λ (o : Out Answer). Accepts j R R' nothing st o) (root-is n k) (h .accepted))
+            at (ran.Refused x) h = absurd (false≢true (ap is-ok (sym (sym (root-is n k) ∙ h) ∙ goal .accepts)))
 
         pictured : PictureIs j (R' .props) (R' .work) (countOf j (accepts .0)) g
         pictured =
@@ -209,7 +204,7 @@ module _ {l f : List ℕ} {q : ℕ} {e : List ℕ} (h : Fillable l f q) (E : Edi
               (omega (arith, x .tree, left .grown .tree-long)) (omega (arith, x .goals, left .grown .goals-long)) (omega (arith, x .work, left .grown .work-long, copied .size))
               (none-yet .0) (none-yet .1) (omega (arith, here, h .inside, terms-joined E, good-passed (h .good) .counted .some))
               (subst⁻¹ (λ (q : ℕ). nodes (termAt e q) + nodes (termAt j 0) ≡ terms e + 1) here (hole-nodes h E J))
-              (subst⁻¹ (λ (n : ℕ). Reached n 0 start g) script (gap-reached (termAt l 0) _ [] start (goal .answer) (goal .state) (goal .accepts) (goal .stands)))
+              (subst⁻¹ (λ (n : ℕ). Reached n 0 (start-of l) g) script (gap-reached (termAt l 0) _ (context-of l) (start-of l) (goal .answer) (goal .state) (goal .accepts) (goal .stands)))
 
           pub reached : ReachedFor e after s g
           reached = record { starts = starts; no-records = none-yet .0; no-goals = none-yet .1; ready = ready-there; table = λ n y. kept n y ∙ loaded .all .records n y }

@@ -1,18 +1,16 @@
 -- The filling's run over the edited table is the rules' run at the goal. Assumes nothing.
 use mathlib.Core.Path.{_≡_, ap, sym, subst, subst⁻¹, subst₂, _∙_}
 use mathlib.Core.List.{List}
-use Prim.Native.Nat.{ℕ, _+_, _*_, _<_, _≤_}
+use Prim.Native.Nat.{ℕ, _≤_}
 use native.Mathlib.Omega.{arith}
-use lib.ListN.{length}
-use Rattle.numbers.specs.declared.Sort.{Sort}
 use Rattle.numbers.specs.Limits.{most-terms}
 use Rattle.layout.specs.File.{props, terms}
 use Rattle.rules.specs.Prop.{Ty}
 use Rattle.rules.specs.Context.{Ctx}
-use Rattle.rules.specs.State.{St, limit}
+use Rattle.rules.specs.State.{St}
 use Rattle.rules.specs.Term.{nodes}
 use Rattle.rules.specs.Tree.{Gap, records, holes}
-use Rattle.rules.specs.Step.{check, Out, refused, ok, Answer}
+use Rattle.rules.specs.Step.{check, Out, ok, Answer}
 use Rattle.rules.specs.Rules.{run}
 use Rattle.rules.specs.Filling.{at-goal}
 use Rattle.rules.proofs.Spent.{Spent, run-spends}
@@ -20,14 +18,14 @@ use Rattle.table.specs.Reading.{termAt}
 use Rattle.table.proofs.Passing.{good-passed}
 use Rattle.editing.specs.Edited.{Fillable, Edited}
 use Rattle.editing.proofs.Edits.{filling-nodes}
-use Rattle.arena.specs.Copy.{most-records}
 use Rattle.step.specs.declared.picture.Start.{Start}
 use Rattle.step.specs.declared.state.State.{State}
-use Rattle.step.specs.declared.state.Checked.{Checked}
-use Rattle.step.specs.declared.state.Checked.the-variants as checked
+use Rattle.step.specs.declared.state.Ran.{Ran as Outcome}
+use Rattle.step.specs.declared.state.Ran.the-variants as ran
+use Rattle.step.specs.declared.state.Want.the-variants as want
 use Rattle.step.specs.Rooms.{Rooms, reads, ctxOf, stOf, countOf}
 use Rattle.prop.specs.Room.{TypeIn}
-use Rattle.step.specs.Contract.{Ready, Accepts, CheckedAs, CheckMeets, runOf}
+use Rattle.step.specs.Contract.{Ready, Accepts, RanAs as Meets, runOf}
 use Rattle.step.specs.Trees.{TreesAre}
 use Rattle.entry.specs.Ran.{Exact, Ran, RanAs}
 use Rattle.filling.specs.Steps.{ExactAll, GoalOf, HoleAt, ReachedFor, Reached, Fitting, Finishes, RunsFilling}
@@ -68,19 +66,16 @@ module _ (e : List ℕ) (q : ℕ) (R R' : Rooms) (s : Start) (g : Gap) (x : Exac
         goals = omega (arith, left .goals, m);
       }
 
-  as-ran : (r : Checked) → CheckedAs e R R' (s .state) (at-goal (termAt e (g .term)) g) r → RanAs e (at-goal (termAt e (g .term)) g) R' r
-  as-ran (checked.Fits st) k = fits st k
-  as-ran (checked.Refused n p) k = k
+  pub hole-ran : (r : Outcome) → Meets e R R' q (want.Check (s .wanted)) (s .state) r → RanAs e (at-goal (termAt e (g .term)) g) R' r
+  hole-ran (ran.Has T st) k = fits st (subst (λ (o : Out Answer). Accepts e R R' (s .state) st o) run-is (k .accepted))
+  hole-ran (ran.Refused x) k = sym run-is ∙ k
 
-  pub hole-ran : (r : Checked) → CheckMeets e R R' q (s .wanted) (s .state) r → RanAs e (at-goal (termAt e (g .term)) g) R' r
-  hole-ran r k = as-ran r (subst (λ (o : Out Answer). CheckedAs e R R' (s .state) o r) run-is k)
-
-  pub hole-fitting : (size : ℕ) → 16 ≤ size → Exact R' → (r : Checked) → CheckMeets e R R' q (s .wanted) (s .state) r → Fitting e size (s .state .serials) R' r
+  pub hole-fitting : (size : ℕ) → 16 ≤ size → Exact R' → (r : Outcome) → Meets e R R' q (want.Check (s .wanted)) (s .state) r → Fitting e size (s .state .serials) R' r
   hole-fitting size long y r k = at r (hole-ran r k)
     where
-      at : (r : Checked) → RanAs e (at-goal (termAt e (g .term)) g) R' r → Fitting e size (s .state .serials) R' r
-      at (checked.Refused n p) k = tt
-      at (checked.Fits st) k =
+      at : (r : Outcome) → RanAs e (at-goal (termAt e (g .term)) g) R' r → Fitting e size (s .state .serials) R' r
+      at (ran.Refused x) k = tt
+      at (ran.Has T st) k =
           let z = spent st (k .answer) (k .accepts) in
           let same : s .state .serials ≡ g .state .serials = ap (λ (st : St). st .serials) (h .starts .counts) in (
             long,
@@ -102,9 +97,9 @@ module _ (l : List ℕ) (k q : ℕ) (hole : HoleAt l k q) (e e₁ : List ℕ) (s
       subst⁻¹ (λ (e : List ℕ). Ready e R q (s .state) × TypeIn (countOf e (s .state)) (s .wanted)) same
       (subst (λ (q : ℕ). Ready e R q (s .state)) (hole .here) (r .ready), r .starts .wanted .among)
 
-  module _ (x : Exact R) (few : nodes (termAt e q) ≤ most-terms) (R' : Rooms) (r : Checked) (meets : CheckMeets e₁ R R' q (s .wanted) (s .state) r) where
-    over-e : CheckMeets e R R' q (s .wanted) (s .state) r
-    over-e = subst (λ (e : List ℕ). CheckMeets e R R' q (s .wanted) (s .state) r) same meets
+  module _ (x : Exact R) (few : nodes (termAt e q) ≤ most-terms) (R' : Rooms) (r : Outcome) (meets : Meets e₁ R R' q (want.Check (s .wanted)) (s .state) r) where
+    over-e : Meets e R R' q (want.Check (s .wanted)) (s .state) r
+    over-e = subst (λ (e : List ℕ). Meets e R R' q (want.Check (s .wanted)) (s .state) r) same meets
 
     pub hole-fits : (size : ℕ) → 16 ≤ size → Exact R' → Fitting e₁ size (s .state .serials) R' r
     hole-fits size long y =
@@ -120,7 +115,7 @@ module _ (l : List ℕ) (k q : ℕ) (hole : HoleAt l k q) (e e₁ : List ℕ) (s
         )
 
 -- so the answer is that of the rules' run at the goal
-pub run-from : (l : List ℕ) (k : ℕ) (e e₁ : List ℕ) → e₁ ≡ e → (S S₁ S' : Lent) → ExactAll S → ExactAll S₁ → (serials : ℕ) (answer : Checked) (r : Filled) → Finishes S₁ S' e₁ serials answer r
+pub run-from : (l : List ℕ) (k : ℕ) (e e₁ : List ℕ) → e₁ ≡ e → (S S₁ S' : Lent) → ExactAll S → ExactAll S₁ → (serials : ℕ) (answer : Outcome) (r : Filled) → Finishes S₁ S' e₁ serials answer r
     → ((g : Gap) → GoalOf l k g → (g .state .serials ≡ serials) × RanAs e₁ (at-goal (termAt e (g .term)) g) (S₁ .rooms) answer) → RunsFilling S S' l k e r
 run-from l k e e₁ same S S₁ S' x y serials answer r f z g goal =
     let w = z g goal in

@@ -2,7 +2,7 @@
 use mathlib.Core.Path.{_≡_, ap, sym, subst, subst⁻¹, subst₂, _∙_}
 use mathlib.Core.Bool.{true, false, true≢false}
 use mathlib.Core.List.{List}
-use Prim.Native.Nat.{ℕ, zero, _+_, _*_, _<_, _≤_}
+use Prim.Native.Nat.{ℕ, _+_, _*_, _<_, _≤_}
 use native.Mathlib.Omega.{arith}
 use borrow.Author.Tests.{lt-ltb, le-ltb}
 use lib.ListN.{length}
@@ -10,7 +10,7 @@ use lib.Dec.{ltb}
 use Rattle.numbers.specs.Records.{wordAt}
 use Rattle.rules.specs.State.{St}
 use Rattle.rules.specs.Tree.{Gap, holes}
-use Rattle.rules.specs.Step.{Out, refused, ok, Answer}
+use Rattle.rules.specs.Step.{Out, stop, ok, Answer}
 use Rattle.rules.specs.Filling.{At, before, at-goal}
 use Rattle.table.specs.declared.Purpose.the-variants as purpose
 use Rattle.table.specs.declared.Verdict.{Verdict}
@@ -31,24 +31,24 @@ use Rattle.entry.proofs.Answers.{is-accepted, number-of, place-of, counts-of, s
 use Rattle.entry.proofs.Marks.{verdict-is}
 use Rattle.filling.specs.declared.answer.Which.the-variants.{Old, Filling, Edit}
 use Rattle.filling.specs.declared.answer.Filled.{Filled}
-use Rattle.filling.specs.Fill.{Lent, Refuses, RunAs, EditedAs, Goal, GoalAs, FillingAs, OldAs}
+use Rattle.filling.specs.Fill.{Lent, Refuses, EditedAs, Goal, GoalAs, FillingAs, OldAs}
 use Rattle.filling.specs.Steps.{ExactAll, OldRan, GoalOf, HoleAt, RunsFilling, FillsHole, FillsGoal}
 use Rattle.filling.proofs.Overs.{carries-over, run-on, goal-on, filling-on}
 
 -- 2. THE OLD TABLE
 module _ (l f : List ℕ) (k : ℕ) (S S₁ S' : Lent) (x : ExactAll S) (y : ExactAll S₁) (m : Mark) (r : Filled) where
   pub old-refused : (n p : ℕ) → m ≡ mark.Refused n p → (o : Out Answer) → MarkedAs l (S .rooms) (S₁ .rooms) o m → Refuses S₁ S' n p Old r → OldAs S S' l f k r o
-  old-refused n p e (refused n′ p′) h z =
+  old-refused n p e (stop s) h z =
       subst₂ (λ (n p : ℕ). Refuses S S' n p Old r) (ap number-of (sym e ∙ h .0)) (ap place-of (sym e ∙ h .0)) (carries-over S S₁ S' x y .refuses z)
   old-refused n p e (ok a st) h z = absurd (true≢false (ap is-accepted (sym (h .0) ∙ e)))
 
   pub old-accepted : (c : Counts) → m ≡ mark.Accepted c → (o : Out Answer) → o ≡ table-run l → MarkedAs l (S .rooms) (S₁ .rooms) o m
       → FillsGoal S₁ S' l f k r → OldAs S S' l f k r o
-  old-accepted c e (refused n p) t h z = absurd (true≢false (ap is-accepted (sym e ∙ h .0)))
+  old-accepted c e (stop s) t h z = absurd (true≢false (ap is-accepted (sym e ∙ h .0)))
   old-accepted c e (ok a st) t h z = filling-on (carries-over S S₁ S' x y) l f k a r (tests purpose.Filling f) (z a st (table-ok l a st (sym t) .1))
 
 pub old-ran : (l : List ℕ) (R R₁ : Rooms) (m : Mark) (c : Counts) → m ≡ mark.Accepted c → (o : Out Answer) → o ≡ table-run l → MarkedAs l R R₁ o m → OldRan l R₁ (c .goals)
-old-ran l R R₁ m c e (refused n p) t h = absurd (true≢false (ap is-accepted (sym e ∙ h .0)))
+old-ran l R R₁ m c e (stop s) t h = absurd (true≢false (ap is-accepted (sym e ∙ h .0)))
 old-ran l R R₁ m c e (ok a st) t h =
     let z = table-ok l a st (sym t) in
     record { good = z .0; answer = a; state = st; accepts = z .1; holds = h .1 .holds; goals = ap (λ (m : Mark). counts-of c m .goals) (sym e ∙ h .0) }

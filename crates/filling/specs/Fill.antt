@@ -9,7 +9,7 @@ use lib.Dec.{leb, ltb}
 use Rattle.numbers.specs.Rooms.{cleared}
 use Rattle.rules.specs.State.{St}
 use Rattle.rules.specs.Tree.{Gap, records, holes}
-use Rattle.rules.specs.Step.{Out, refused, ok, Answer}
+use Rattle.rules.specs.Step.{Out, stop, ok, Answer}
 use Rattle.rules.specs.Filling.{At, before, at-goal}
 use Rattle.table.specs.declared.Purpose.the-variants as purpose
 use Rattle.table.specs.declared.Verdict.{Verdict}
@@ -54,7 +54,7 @@ pub record Accepts (S S' : Lent) (e : List ℕ) (g : Gap) (b : Answer) (st : St)
 
 -- 6. THE FILLING'S RUN, from the context and the counts reached at the hole
 abbrev pub RunAs : (S S' : Lent) → (e : List ℕ) → Gap → Filled → Out Answer → Type 0
-RunAs S S' e g r (refused n p) = Refuses S S' n p Edit r
+RunAs S S' e g r (stop z) = Refuses S S' (z .number) (z .place) Edit r
 RunAs S S' e g r (ok b st) = Accepts S S' e g b st r
 
 -- 5. THE EDITED TABLE'S TESTS 3 and 6
@@ -84,7 +84,7 @@ FillingAs S S' l f k a r verdict.Passes = GoalAs S S' l f k a r (ltb k (holes (a
 
 -- 2. THE OLD TABLE'S TESTS AND RUN
 abbrev pub OldAs : (S S' : Lent) → (l f : List ℕ) → ℕ → Filled → Out Answer → Type 0
-OldAs S S' l f k r (refused n p) = Refuses S S' n p Old r
+OldAs S S' l f k r (stop z) = Refuses S S' (z .number) (z .place) Old r
 OldAs S S' l f k r (ok a st) = FillingAs S S' l f k a r (tests purpose.Filling f)
 
 -- 1. THE ROOMS

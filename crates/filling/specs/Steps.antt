@@ -17,8 +17,8 @@ use Rattle.editing.specs.Edited.{edited-bytes}
 use Rattle.arena.specs.Copy.{most-records}
 use Rattle.arena.specs.Load.{loadedRecord}
 use Rattle.step.specs.declared.picture.Start.{Start}
-use Rattle.step.specs.declared.state.Checked.{Checked}
-use Rattle.step.specs.declared.state.Checked.the-variants as checked
+use Rattle.step.specs.declared.state.Ran.{Ran as Outcome}
+use Rattle.step.specs.declared.state.Ran.the-variants as ran
 use Rattle.step.specs.Rooms.{Rooms, countOf}
 use Rattle.step.specs.Picture.{StartsAt}
 use Rattle.step.specs.Contract.{Ready}
@@ -66,13 +66,13 @@ abbrev pub Reached : (l : List ℕ) → (k : ℕ) → (e : List ℕ) → Rooms �
 Reached l k e R s = (g : Gap) → GoalOf l k g → ReachedFor e R s g
 
 -- AFTER THE FILLING'S RUN over e, which has so many bytes: the counts are within the rooms, and serials were only added
-abbrev pub Fitting : (e : List ℕ) → (size serials : ℕ) → Rooms → Checked → Type 0
-Fitting e size serials R (checked.Refused n p) = Unit {0}
-Fitting e size serials R (checked.Fits st) =
+abbrev pub Fitting : (e : List ℕ) → (size serials : ℕ) → Rooms → Outcome → Type 0
+Fitting e size serials R (ran.Refused r) = Unit {0}
+Fitting e size serials R (ran.Has T st) =
     (16 ≤ size) × (countOf e st ≤ most-records) × (16 * st .records ≤ tree-bytes) × (8 * st .goals ≤ goals-bytes) × (serials ≤ st .serials)
 
 -- WHAT EACH STEP PROMISES, from the last to the first: the run's answer, for whatever run it was of
-abbrev pub Finishes : (S S' : Lent) → (e : List ℕ) → (serials : ℕ) → Checked → Filled → Type 0
+abbrev pub Finishes : (S S' : Lent) → (e : List ℕ) → (serials : ℕ) → Outcome → Filled → Type 0
 Finishes S S' e serials answer r = (g : Gap) (o : Out Answer) → g .state .serials ≡ serials → RanAs e o (S .rooms) answer → RunAs S S' e g r o
 
 -- the filling's run at goal k of l

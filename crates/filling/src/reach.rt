@@ -6,7 +6,6 @@ ghost use Rattle.step.specs.Rooms.{rooms};
 ghost use Rattle.entry.specs.Ran.{Exact};
 ghost use Rattle.filling.specs.Steps.{HoleAt, Reached};
 use arena::load::load;
-use checker::chk;
 use editing::put_term;
 use editing::term_record;
 use layout::header::expected_field;
@@ -47,7 +46,7 @@ pub fn reach(
         made: 0,
         context: 0,
     };
-    chk::check(table, tree, goals, props, work, Term(0), wanted, nothing);
+    checker::check(table, tree, goals, props, work, Term(0), wanted, nothing);
     put_term(table, hole, root);
     recall(work)
 }

@@ -11,13 +11,12 @@ use super::answer::Filled;
 use super::answer::Which;
 use super::answer::refuse;
 use super::reach::reach;
-use checker::chk;
 use editing::EDITED;
 use entry::Counts;
 use entry::rooms::clear_rest;
 use entry::rooms::trim;
 use numbers::Term;
-use step::state::Checked;
+use step::state::Ran;
 use step::state::count_of;
 
 // The answer, and the rooms cleaned after the run; the edited table has so many bytes, and the run began with so many serials.
@@ -29,7 +28,7 @@ fn finish(
     edited: &mut [u8],
     size: usize,
     serials: u16,
-    answer: Checked,
+    answer: Ran,
 ) -> Filled
     requires { ⌜ ExactAll (lent (now tree) (now goals) (now props) (now work) (now edited)) ⌝ }
     requires { ⌜ Fitting (take size (now edited)) size serials (rooms (now tree) (now goals) (now props) (now work)) answer ⌝ }
@@ -37,11 +36,19 @@ fn finish(
     ensures { λ r. ⌜ Finishes (lent (now (tree .entry)) (now (goals .entry)) (now (props .entry)) (now (work .entry)) (now (edited .entry))) (lent (now (tree .exit)) (now (goals .exit)) (now (props .exit)) (now (work .exit)) (now (edited .exit))) (take size (now (edited .entry))) serials answer r ⌝ }
 {
     match answer {
-        Checked::Refused(n, place) => {
-            let p = place.0;
-            refuse(tree, goals, props, work, edited, n, p, Which::Edit)
+        Ran::Refused(e) => {
+            refuse(
+                tree,
+                goals,
+                props,
+                work,
+                edited,
+                e.number,
+                e.place,
+                Which::Edit,
+            )
         }
-        Checked::Fits(st) => {
+        Ran::Has(_, st) => {
             let count = count_of(&edited[..size], st);
             clear_rest(tree, goals, props, work, st.records, st.goals, count);
             trim(edited, size, EDITED);
@@ -89,6 +96,6 @@ pub fn run_filling(
     let wanted = start.wanted;
     let st = start.state;
     let serials = st.serials;
-    let answer = chk::check(&edited[..size], tree, goals, props, work, hole, wanted, st);
+    let answer = checker::check(&edited[..size], tree, goals, props, work, hole, wanted, st);
     finish(tree, goals, props, work, edited, size, serials, answer)
 }

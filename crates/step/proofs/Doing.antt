@@ -1,63 +1,47 @@
 -- In the middle of a rule: the code has done what the rules have, up to the rest of the rule's program. One law for each thing that a rule does.
 -- Assumes nothing.
-use mathlib.Core.Path.{_≡_, refl, ap, ap₂, sym, subst, subst₂, subst⁻¹, _∙_}
+use mathlib.Core.Path.{_≡_, refl, ap, sym, subst, subst⁻¹, _∙_}
 use mathlib.Core.List.{List, [], _∷_}
 use Prim.Native.Nat.{ℕ, _+_, _*_, _<_, _≤_}
 use native.Mathlib.Omega.{arith}
 use lib.ListN.{length}
-use Rattle.numbers.specs.declared.Term.{Term as Place}
 use Rattle.numbers.specs.declared.Sort.{Sort}
 use Rattle.numbers.specs.declared.record.Record.{Record}
-use Rattle.numbers.specs.Records.{recordAt, Put, Same}
+use Rattle.numbers.specs.declared.refusal.Refusal.{Refusal}
+use Rattle.numbers.specs.Records.{Put}
 use Rattle.layout.specs.File.{terms}
 use Rattle.rules.specs.Prop.{Ty}
 use Rattle.rules.specs.Context.{Ctx}
 use Rattle.rules.specs.State.{St, limit}
 use Rattle.rules.specs.Term.{Term, leaf, single, double, triple, sorry, nodes, place}
-use Rattle.rules.specs.Tree.{Node, Trees, end, node, _⊕_, stack, records, holes, width}
-use Rattle.rules.specs.Step.{Want, synth, check, Out, refused, ok, then, Answer, Steps, Arity, done, more, Prog, conclude, ask, Kid, Kids, obey, answered, finish, perform}
+use Rattle.rules.specs.Tree.{end, node, _⊕_, stack, records, holes, width}
+use Rattle.rules.specs.Step.{Want as Mode, check, Refusal as Fault, Out, stop, ok, then, Answer, Steps, Arity, done, more, Prog, conclude, ask, Kids, obey, answered, finish, perform}
 use Rattle.rules.specs.Rules.{leaf-step, single-step, double-step, triple-step, sorry-run, kid, run}
 use Rattle.rules.proofs.Filling.{join-end}
 use Rattle.rules.proofs.Spent.{records-beside, holes-beside, width-beside, Spent, run-spends}
 use Rattle.table.specs.Reading.{termAt}
-use Rattle.prop.specs.Room.{Arena}
 use Rattle.step.specs.declared.state.State.{State}
-use Rattle.step.specs.declared.state.Checked.{Checked}
-use Rattle.step.specs.declared.state.Checked.the-variants as checked
-use Rattle.step.specs.declared.state.Synthesized.{Synthesized}
-use Rattle.step.specs.declared.state.Synthesized.the-variants as synthesized
-use Rattle.step.specs.Rooms.{Rooms, rooms, reads, ctxOf, stOf, countOf, inner, leaving, Stands, Entries, Base}
-use Rattle.step.specs.Trees.{nodeRec, first-serial, second-serial, NodeIs, TreesAre}
+use Rattle.step.specs.declared.state.Want.{Want}
+use Rattle.step.specs.declared.state.Ran.the-variants as ran
+use Rattle.step.specs.Rooms.{Rooms, rooms, ctxOf, stOf, countOf, inner, leaving, Stands, Entries, Base}
+use Rattle.step.specs.Modes.{mode}
+use Rattle.step.specs.Trees.{nodeRec, first-serial, second-serial, TreesAre}
 use Rattle.step.specs.Picture.{PicturesAre}
-use Rattle.step.specs.Contract.{Ready, Grown, Left, Accepts, Answers, CheckedAs, SynthesizedAs, runOf, CheckMeets, SynthMeets}
-use Rattle.step.proofs.Programs.{rest, rest-refused, rest-ask, ask-refused, rest-conclude}
-use Rattle.step.proofs.Frames.{entries-kept, ctx-kept, loaded-kept, stands-kept, left-none, left-trans, left-leave, grown-trans, trees-kept, trees-beside}
-
--- term k was begun in the rooms R₀ at st₀; now the rooms are R, the counts st, and the program q is left, for the children ks. The trees of its children stand
--- after the record that is kept for its own node. The children have `used` nodes, `own` serials were made beside theirs, and there are `wide` of them
-pub record Doing (l : List ℕ) (R₀ : Rooms) (k : ℕ) (w : Want) (st₀ : State) (R : Rooms) (st : State) {a : Arity} (q : Prog a) (ks : Kids a) (used own wide : ℕ) : Type 0 where
-  pub trees : Trees
-  pub rule : runOf l R₀ k w st₀ ≡ rest w trees (obey q ks (stOf st))
-  pub left : Left l R₀ R (inner st₀) st trees
-  pub made : st .made ≤ limit
-  pub few-records : records trees ≤ 2 * used
-  pub few-holes : holes trees ≤ used
-  pub few-serials : st .serials ≤ st₀ .serials + (own + 2 * used)
-  pub broad : width trees ≡ wide
-
-abbrev pub kidAt : List ℕ → ℕ → Kid
-kidAt l m = kid (termAt l m) (run (termAt l m))
+use Rattle.step.specs.Contract.{Ready, Left, Answers, refusal-of, Refuses, runOf, RanAs}
+use Rattle.step.specs.Under.{rest, Doing, kidAt}
+use Rattle.step.proofs.Programs.{rest-refused, rest-ask, ask-refused, rest-conclude}
+use Rattle.step.proofs.Frames.{entries-kept, ctx-kept, loaded-kept, stands-kept, left-none, left-trans, left-leave, trees-kept}
 
 is-ok : Out Answer → Type 0
-is-ok (refused n p) = ⊥
+is-ok (stop r) = ⊥
 is-ok (ok a st) = Unit {0}
 
-refused-ok : {n p : ℕ} {a : Answer} {st : St} → refused n p ≡ ok a st → ⊥
+refused-ok : {r : Fault} {a : Answer} {st : St} → stop r ≡ ok a st → ⊥
 unfolding is-ok
 refused-ok e = subst⁻¹ is-ok e tt
 
 ty-of : Ty → Out Answer → Ty
-ty-of A (refused n p) = A
+ty-of A (stop r) = A
 ty-of A (ok a st) = a .ty
 
 ok-ty : {a b : Answer} {st st₁ : St} → ok a st ≡ ok b st₁ → a .ty ≡ b .ty
@@ -67,7 +51,7 @@ ok-ty {a} e = ap (ty-of (a .ty)) e
 -- a check answers what was expected
 finish-answers : (A : Ty) (o : Out Steps) {a : Answer} {st : St} → then o (finish (check A)) ≡ ok a st → a .ty ≡ A
 unfolding then finish answered
-finish-answers A (refused n p) e = absurd (refused-ok e)
+finish-answers A (stop r) e = absurd (refused-ok e)
 finish-answers A (ok r st₁) e = sym (ok-ty e)
 
 pub check-answers : (t : Term) (A : Ty) (Γ : Ctx) (st : St) {a : Answer} {st₁ : St} → run t (check A) Γ st ≡ ok a st₁ → a .ty ≡ A
@@ -90,7 +74,7 @@ pub leaving-same : (s : State) (n : ℕ) → s .context ≡ n → s ≡ leaving 
 leaving-same s n e i = record { records = s .records; goals = s .goals; serials = s .serials; made = s .made; context = e i }
 
 -- THE BEGINNING
-pub doing-start : {l : List ℕ} {R : Rooms} {k : ℕ} {w : Want} {st : State} {a : Arity} (q : Prog a) (ks : Kids a) → Ready l R k st → runOf l R k w st ≡ rest w end (obey q ks (stOf st)) → Doing l R k w st R (inner st) q ks 0 0 0
+pub doing-start : {l : List ℕ} {R : Rooms} {k : ℕ} {w : Mode} {st : State} {a : Arity} (q : Prog a) (ks : Kids a) → Ready l R k st → runOf l R k w st ≡ rest w end (obey q ks (stOf st)) → Doing l R k w st R (inner st) q ks 0 0 0
 unfolding records holes width
 doing-start q ks rd e =
     record {
@@ -104,7 +88,7 @@ doing-start q ks rd e =
       broad = refl;
     }
 
-module _ {l : List ℕ} {R₀ : Rooms} {k : ℕ} {w : Want} {st₀ : State} {R : Rooms} {st : State} {a : Arity} {q : Prog a} {ks : Kids a} {used own wide : ℕ} where
+module _ {l : List ℕ} {R₀ : Rooms} {k : ℕ} {w : Mode} {st₀ : State} {R : Rooms} {st : State} {a : Arity} {q : Prog a} {ks : Kids a} {used own wide : ℕ} where
   -- what holds of the rooms
   pub doing-base : Base l R₀ st₀ → Doing l R₀ k w st₀ R st q ks used own wide → Base l R st
   doing-base b d =
@@ -174,87 +158,50 @@ module _ {l : List ℕ} {R₀ : Rooms} {k : ℕ} {w : Want} {st₀ : State} {R :
         context = omega (arith, rd .context);
       }
 
-  -- the same where no entry was made
-  pub doing-ready-flat : {s : State} (m : ℕ) → Ready l R₀ k st₀ → Doing l R₀ k w st₀ R st q ks used own wide → m < terms l → 1 + used + nodes (termAt l m) ≤ nodes (termAt l k) → own ≤ 2 → s ≡ st → Ready l R m s
-  doing-ready-flat {s} m rd d h n a e =
-      let flat : st ≡ leaving st (st .context + 0) = leaving-same st (st .context + 0) (omega arith) in
-      doing-ready m 0 rd d h n a (omega arith) (e ∙ flat) (subst⁻¹ (λ (n : ℕ). Entries (R .work) n (countOf l st)) (omega arith) (doing-base (rd .base) d .entries))
-
   -- THE END, where the program stops
-  pub doing-stop : (n p : ℕ) → Doing l R₀ k w st₀ R st q ks used own wide → obey q ks (stOf st) ≡ refused n p → runOf l R₀ k w st₀ ≡ refused n p
-  doing-stop n p d e = d .rule ∙ ap (rest w (d .trees)) e ∙ rest-refused w (d .trees) n p
+  pub doing-stop : (r : Fault) → Doing l R₀ k w st₀ R st q ks used own wide → obey q ks (stOf st) ≡ stop r → runOf l R₀ k w st₀ ≡ stop r
+  doing-stop r d e = d .rule ∙ ap (rest w (d .trees)) e ∙ rest-refused w (d .trees) r
 
 -- A PREMISE. It ran in a context of n entries, and the rule goes on with as many as before
-module _ {l : List ℕ} {R₀ : Rooms} {k : ℕ} {w : Want} {st₀ : State} {R : Rooms} {st s : State} {used own wide : ℕ} (m n : ℕ) {a : Arity} {w′ : Want} {Γ′ : Ctx} {q : Ty → Prog a} {ks : Kids a}
-    (d : Doing l R₀ k w st₀ R st (ask w′ Γ′ q) (kidAt l m, ks) used own wide) (deep : st .context ≤ n) (es : s ≡ leaving st n) (eΓ : Γ′ ≡ ctxOf l (R .props) (R .work) n) where
-  asked : (v : Want) → w′ ≡ v → run (termAt l m) w′ Γ′ (stOf st) ≡ runOf l R m v s
-  asked v e = (λ i. run (termAt l m) (e i) (eΓ i) (stOf st)) ∙ sym (ap (runOf l R m v) es)
+module _ {l : List ℕ} {R₀ : Rooms} {k : ℕ} {w : Mode} {st₀ : State} {R : Rooms} {st s : State} {used own wide : ℕ} (m n : ℕ) {a : Arity} {w′ : Mode} {Γ′ : Ctx} {q : Ty → Prog a} {ks : Kids a}
+    (d : Doing l R₀ k w st₀ R st (ask w′ Γ′ q) (kidAt l m, ks) used own wide) (deep : st .context ≤ n) (es : s ≡ leaving st n) (eΓ : Γ′ ≡ ctxOf l (R .props) (R .work) n)
+    (v : Want) (e : w′ ≡ mode l (R .props) v) (R₁ : Rooms) where
+  asked : run (termAt l m) w′ Γ′ (stOf st) ≡ runOf l R m (mode l (R .props) v) s
+  asked = (λ i. run (termAt l m) (e i) (eΓ i) (stOf st)) ∙ sym (ap (runOf l R m (mode l (R .props) v)) es)
 
-  next : {R₁ : Rooms} {s₁ : State} (v : Want) → w′ ≡ v → (acc : Accepts l R R₁ s s₁ (runOf l R m v s)) → Doing l R₀ k w st₀ R₁ (leaving s₁ (st .context)) (q (acc .answer .ty)) ks (used + nodes (termAt l m)) own (wide + 1)
-  next {R₁} {s₁} v e acc =
-      let runs : run (termAt l m) w′ Γ′ (stOf st) ≡ ok (acc .answer) (stOf s₁) = asked v e ∙ acc .accepts in
+  -- what it answers is the type that the rule goes on with
+  pub doing-went : {T : Sort} {s₁ : State} → RanAs l R R₁ m v s (ran.Has T s₁)
+      → (A : Ty) × Stands l (R₁ .props) (countOf l s₁) T A × Doing l R₀ k w st₀ R₁ (leaving s₁ (st .context)) (q A) ks (used + nodes (termAt l m)) own (wide + 1)
+  doing-went {s₁ = s₁} ans =
+      let acc = ans .accepted in
+      let runs : run (termAt l m) w′ Γ′ (stOf st) ≡ ok (acc .answer) (stOf s₁) = asked ∙ acc .accepts in
       let spent : Spent (nodes (termAt l m)) (stOf st) (acc .answer) (stOf s₁) = run-spends (termAt l m) w′ Γ′ (stOf st) (acc .answer) (stOf s₁) runs in
       let left : Left l R R₁ st (leaving s₁ (st .context)) (acc .answer .tree) = left-leave (st .context) deep (subst (λ (s : State). Left l R R₁ s s₁ (acc .answer .tree)) es (acc .left)) in
-      let ts = d .trees in
-      record {
-        trees = ts ⊕ acc .answer .tree;
-        rule = d .rule ∙ rest-ask w ts w′ Γ′ q (kidAt l m, ks) (stOf st) (acc .answer) (stOf s₁) runs;
-        left = left-trans (d .left) left;
-        made = spent .within (d .made);
-        few-records = omega (arith, d .few-records, spent .records, records-beside ts (acc .answer .tree));
-        few-holes = omega (arith, d .few-holes, spent .holes, holes-beside ts (acc .answer .tree));
-        few-serials = omega (arith, d .few-serials, spent .serials);
-        broad = omega (arith, d .broad, spent .one, width-beside ts (acc .answer .tree));
-      }
+      let ts = d .trees in (
+        acc .answer .ty,
+        ans .type,
+        record {
+          trees = ts ⊕ acc .answer .tree;
+          rule = d .rule ∙ rest-ask w ts w′ Γ′ q (kidAt l m, ks) (stOf st) (acc .answer) (stOf s₁) runs;
+          left = left-trans (d .left) left;
+          made = spent .within (d .made);
+          few-records = omega (arith, d .few-records, spent .records, records-beside ts (acc .answer .tree));
+          few-holes = omega (arith, d .few-holes, spent .holes, holes-beside ts (acc .answer .tree));
+          few-serials = omega (arith, d .few-serials, spent .serials);
+          broad = omega (arith, d .broad, spent .one, width-beside ts (acc .answer .tree));
+        },
+      )
 
-  -- a check that was accepted answers what was expected
-  pub doing-checked : (R₁ : Rooms) {s₁ : State} (T : Sort) {r : Checked} → w′ ≡ check (reads l (R .props) T) → CheckMeets l R R₁ m T s r → r ≡ checked.Fits s₁
-      → Doing l R₀ k w st₀ R₁ (leaving s₁ (st .context)) (q (reads l (R .props) T)) ks (used + nodes (termAt l m)) own (wide + 1)
-  doing-checked R₁ {s₁} T e meets f =
-      let acc : Accepts l R R₁ s s₁ (runOf l R m (check (reads l (R .props) T)) s) = subst (CheckMeets l R R₁ m T s) f meets in
-      doing-same (ap q (check-answers (termAt l m) _ _ _ (acc .accepts))) (next (check (reads l (R .props) T)) e acc)
-
-  pub doing-checked-stop : (R₁ : Rooms) (T : Sort) {r : Checked} {n : ℕ} {p : Place} → w′ ≡ check (reads l (R .props) T) → CheckMeets l R R₁ m T s r → r ≡ checked.Refused n p → runOf l R₀ k w st₀ ≡ refused n (p .0)
-  doing-checked-stop R₁ T {r} {n} {p} e meets f =
-      doing-stop n (p .0) d (ask-refused w′ Γ′ q (kidAt l m, ks) (stOf st) n (p .0) (asked (check (reads l (R .props) T)) e ∙ subst (CheckMeets l R R₁ m T s) f meets))
-
-  -- what was synthesized is the type that the rule goes on with
-  pub doing-synthesized : (R₁ : Rooms) {s₁ : State} {T : Sort} {r : Synthesized} → w′ ≡ synth → SynthMeets l R R₁ m s r → r ≡ synthesized.Has T s₁
-      → (A : Ty) × Stands l (R₁ .props) (countOf l s₁) T A × Doing l R₀ k w st₀ R₁ (leaving s₁ (st .context)) (q A) ks (used + nodes (termAt l m)) own (wide + 1)
-  doing-synthesized R₁ {s₁} {T} e meets f =
-      let ans : Answers l R R₁ s s₁ T (runOf l R m synth s) = subst (SynthMeets l R R₁ m s) f meets in
-      (ans .accepted .answer .ty, ans .type, next synth e (ans .accepted))
-
-  pub doing-synthesized-stop : (R₁ : Rooms) {r : Synthesized} {n : ℕ} {p : Place} → w′ ≡ synth → SynthMeets l R R₁ m s r → r ≡ synthesized.Refused n p → runOf l R₀ k w st₀ ≡ refused n (p .0)
-  doing-synthesized-stop R₁ {r} {n} {p} e meets f =
-      doing-stop n (p .0) d (ask-refused w′ Γ′ q (kidAt l m, ks) (stOf st) n (p .0) (asked synth e ∙ subst (SynthMeets l R R₁ m s) f meets))
-
--- the same where it ran with as many entries as the rule has
-module _ {l : List ℕ} {R₀ : Rooms} {k : ℕ} {w : Want} {st₀ : State} {R : Rooms} {st s : State} {used own wide : ℕ} (m : ℕ) {a : Arity} {w′ : Want} {Γ′ : Ctx} {q : Ty → Prog a} {ks : Kids a}
-    (d : Doing l R₀ k w st₀ R st (ask w′ Γ′ q) (kidAt l m, ks) used own wide) (es : s ≡ st) (eΓ : Γ′ ≡ ctxOf l (R .props) (R .work) (st .context)) where
-  flat-left : {s₁ : State} → s₁ .context ≡ s .context → leaving s₁ (st .context) ≡ s₁
-  flat-left {s₁} e = sym (leaving-same s₁ (st .context) (e ∙ ap (λ (s : State). s .context) es))
-
-  pub flat-checked : (R₁ : Rooms) {s₁ : State} (T : Sort) {r : Checked} → w′ ≡ check (reads l (R .props) T) → CheckMeets l R R₁ m T s r → r ≡ checked.Fits s₁
-      → Doing l R₀ k w st₀ R₁ s₁ (q (reads l (R .props) T)) ks (used + nodes (termAt l m)) own (wide + 1)
-  flat-checked R₁ {s₁} T e meets f =
-      let acc : Accepts l R R₁ s s₁ (runOf l R m (check (reads l (R .props) T)) s) = subst (CheckMeets l R R₁ m T s) f meets in
-      subst (λ (z : State). Doing l R₀ k w st₀ R₁ z (q (reads l (R .props) T)) ks (used + nodes (termAt l m)) own (wide + 1)) (flat-left (acc .left .context))
-      (doing-checked m (st .context) d (omega arith) es eΓ R₁ T e meets f)
-
-  pub flat-synthesized : (R₁ : Rooms) {s₁ : State} {T : Sort} {r : Synthesized} → w′ ≡ synth → SynthMeets l R R₁ m s r → r ≡ synthesized.Has T s₁
-      → (A : Ty) × Stands l (R₁ .props) (countOf l s₁) T A × Doing l R₀ k w st₀ R₁ s₁ (q A) ks (used + nodes (termAt l m)) own (wide + 1)
-  flat-synthesized R₁ {s₁} {T} e meets f =
-      let ans : Answers l R R₁ s s₁ T (runOf l R m synth s) = subst (SynthMeets l R R₁ m s) f meets in
-      let g = doing-synthesized m (st .context) d (omega arith) es eΓ R₁ e meets f in
-      (g .0, g .1, subst (λ (z : State). Doing l R₀ k w st₀ R₁ z (q (g .0)) ks (used + nodes (termAt l m)) own (wide + 1)) (flat-left (ans .accepted .left .context)) (g .2))
+  -- its refusal is the rule's
+  pub doing-refused : (r : Refusal) → RanAs l R R₁ m v s (ran.Refused r) → Refuses (runOf l R₀ k w st₀) r
+  doing-refused r h = doing-stop (refusal-of r) d (ask-refused w′ Γ′ q (kidAt l m, ks) (stOf st) (refusal-of r) (asked ∙ h))
 
 -- THE NODE, put in the record that was kept for it
-module _ {l : List ℕ} {R₀ : Rooms} {k : ℕ} {w : Want} {st₀ : State} {R : Rooms} {st : State} {a : Arity} {q : Prog a} {ks : Kids a} {used own wide : ℕ} where
+module _ {l : List ℕ} {R₀ : Rooms} {k : ℕ} {w : Mode} {st₀ : State} {R : Rooms} {st : State} {a : Arity} {q : Prog a} {ks : Kids a} {used own wide : ℕ} where
   pub doing-put : Ready l R₀ k st₀ → Doing l R₀ k w st₀ R st q ks used own wide → 16 * (st₀ .records) + 16 ≤ length (R .tree)
   doing-put rd d = omega (arith, rd .records, nodes-some (termAt l k), rd .base .tree-room, d .left .grown .tree-long)
 
-module _ {l : List ℕ} {R₀ : Rooms} {k : ℕ} {w : Want} {st₀ : State} {R : Rooms} {st : State} {used own wide : ℕ} {A B : Ty} {rule : ℕ} {is : List ℕ}
+module _ {l : List ℕ} {R₀ : Rooms} {k : ℕ} {w : Mode} {st₀ : State} {R : Rooms} {st : State} {used own wide : ℕ} {A B : Ty} {rule : ℕ} {is : List ℕ}
     (d : Doing l R₀ k w st₀ R st (conclude B (record { rule = rule; term = k; concludes = A; serials = is } ∷ [])) tt used own wide) where
   concluded : runOf l R₀ k w st₀ ≡ ok (record { ty = answered w B; tree = node (record { rule = rule; term = k; concludes = A; serials = is }) (d .trees) end }) (stOf st)
   unfolding stack
@@ -296,13 +243,9 @@ module _ {l : List ℕ} {R₀ : Rooms} {k : ℕ} {w : Want} {st₀ : State} {R :
               };
         }
 
-    pub doing-fits : Accepts l R₀ (rooms tr (R .goals) (R .props) (R .work)) st₀ st (runOf l R₀ k w st₀)
-    doing-fits = record { answer = record { ty = answered w B; tree = node (record { rule = rule; term = k; concludes = A; serials = is }) (d .trees) end }; accepts = concluded; left = topped }
-
-    pub doing-has : {U : Sort} → w ≡ synth → Stands l (R .props) (countOf l st) U B → Answers l R₀ (rooms tr (R .goals) (R .props) (R .work)) st₀ st U (runOf l R₀ k w st₀)
-    unfolding answered
-    doing-has {U} v u =
+    pub doing-has : {U : Sort} → Stands l (R .props) (countOf l st) U (answered w B) → Answers l R₀ (rooms tr (R .goals) (R .props) (R .work)) st₀ st U (runOf l R₀ k w st₀)
+    doing-has u =
         record {
           accepted = record { answer = record { ty = answered w B; tree = node (record { rule = rule; term = k; concludes = A; serials = is }) (d .trees) end }; accepts = concluded; left = topped };
-          type = subst⁻¹ (λ (v : Want). Stands l (R .props) (countOf l st) U (answered v B)) v u;
+          type = u;
         }

@@ -1,25 +1,21 @@
 -- What rooms that have grown keep: types, contexts and trees mean the same. Assumes nothing.
-use mathlib.Core.Path.{_≡_, refl, ap, ap₂, sym, subst, subst₂, subst⁻¹, _∙_}
-use mathlib.Core.List.{List, [], _∷_}
-use Prim.Native.Nat.{ℕ, _+_, _*_, _<_, _≤_}
+use mathlib.Core.Path.{_≡_, refl, ap, subst, subst₂, subst⁻¹, _∙_}
+use mathlib.Core.List.{List}
+use Prim.Native.Nat.{ℕ, _+_, _<_, _≤_}
 use native.Mathlib.Omega.{arith}
-use lib.ListN.{length}
 use Rattle.numbers.specs.declared.Sort.{Sort}
-use Rattle.numbers.specs.declared.record.Record.{Record}
-use Rattle.numbers.specs.Records.{recordAt, Put, Same}
+use Rattle.numbers.specs.Records.{recordAt, Same}
 use Rattle.layout.specs.File.{props}
 use Rattle.rules.specs.Prop.{Ty}
-use Rattle.rules.specs.Context.{Ctx}
-use Rattle.rules.specs.State.{limit}
-use Rattle.rules.specs.Tree.{Node, Gap, Trees, end, gap, node, _⊕_, records, holes, width}
+use Rattle.rules.specs.Tree.{Node, Gap, Trees, end, gap, node, _⊕_, records, holes}
 use Rattle.rules.proofs.Spent.{records-beside, holes-beside}
-use Rattle.prop.specs.Room.{typeAt, TypeIn, Arena}
-use Rattle.prop.proofs.Rooms.{room-same, type-same, type-more, arena-less}
-use Rattle.context.specs.Context.{entryAt, SameEntries, ctxAt}
+use Rattle.prop.specs.Room.{TypeIn, Arena}
+use Rattle.prop.proofs.Rooms.{room-same, type-same, type-more}
+use Rattle.context.specs.Context.{entryAt}
 use Rattle.context.proofs.Laws.{ctx-same, ctx-read-same}
 use Rattle.step.specs.declared.state.State.{State}
-use Rattle.step.specs.Rooms.{Rooms, rooms, reads, ctxOf, countOf, leaving, Stands, Entries, Loaded, Base}
-use Rattle.step.specs.Trees.{goalAt, SameGoals, NodeIs, GapIs, TreesAre}
+use Rattle.step.specs.Rooms.{Rooms, rooms, reads, ctxOf, countOf, leaving, Stands, Entries, Loaded}
+use Rattle.step.specs.Trees.{goalAt, NodeIs, GapIs, TreesAre}
 use Rattle.step.specs.Picture.{PicturesAre}
 use Rattle.step.specs.Contract.{Grown, Left}
 use Rattle.step.proofs.Pictures.{pictures-kept, pictures-beside}

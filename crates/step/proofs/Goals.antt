@@ -1,5 +1,5 @@
 -- The goals of a run's trees by their numbers: where each stands, its record, its picture in another table, and the run that starts there. Assumes nothing.
-use mathlib.Core.Path.{_≡_, refl, ap, sym, subst, subst⁻¹, _∙_}
+use mathlib.Core.Path.{_≡_, refl, ap, sym, subst⁻¹, _∙_}
 use mathlib.Core.List.{List}
 use Prim.Native.Nat.{ℕ, _+_, _*_, _<_, _≤_}
 use native.Mathlib.Omega.{arith}
@@ -8,21 +8,19 @@ use Rattle.numbers.specs.declared.Sort.{Sort}
 use Rattle.layout.specs.File.{props, terms}
 use Rattle.rules.specs.State.{St, start}
 use Rattle.rules.specs.Term.{nodes}
-use Rattle.rules.specs.Tree.{Gap, Trees, node, goals, records, holes}
-use Rattle.rules.specs.Step.{Want, ok, Answer}
+use Rattle.rules.specs.Tree.{Gap, Trees, goals, records, holes}
 use Rattle.rules.specs.Filling.{At, here, past-gap, past-node, within, before}
 use Rattle.rules.proofs.Demand.{goal-at}
-use Rattle.rules.proofs.Spent.{holes-goals, Reached, gap-reached}
-use Rattle.table.specs.Reading.{propAt, termAt}
-use Rattle.prop.specs.Room.{roomAt, typeAt, TypeIn}
-use Rattle.prop.proofs.Rooms.{arena-less}
+use Rattle.rules.proofs.Spent.{holes-goals, Reached}
+use Rattle.table.specs.Reading.{termAt}
+use Rattle.prop.specs.Room.{typeAt, TypeIn}
 use Rattle.context.proofs.Laws.{ctx-length}
 use Rattle.step.specs.declared.node.Goal.{Goal}
 use Rattle.step.specs.declared.state.State.{State}
 use Rattle.step.specs.Rooms.{Rooms, Table, Loaded, reads, countOf, most-nodes, most-goals, run-room}
 use Rattle.step.specs.Trees.{goalAt, TreesAre}
 use Rattle.step.specs.Picture.{picturedState, picturedType, picturedAt, picturedCtx, PictureIs, StartsAt}
-use Rattle.step.specs.Contract.{Ready, runOf}
+use Rattle.step.specs.Contract.{Ready}
 use Rattle.step.proofs.Starts.{nothing}
 
 -- A GOAL'S NUMBER is below the number of gaps
@@ -80,25 +78,6 @@ picture-moved {l} {l'} {ps} {w} {c} {g} p e k =
       few-serials = omega (arith, k, p .few-serials);
       few-entries = omega (arith, k, p .few-entries);
     }
-
--- ITS ROOM in such a table, and with fewer propositions
-pub loaded-moved : {l l' ps : List ℕ} {c : ℕ} → Loaded l ps c → props l' ≡ props l → ((n : ℕ) → n < props l → propAt l' n ≡ propAt l n)
-    → (d : ℕ) → props l ≤ d → d ≤ c → Loaded l' ps d
-loaded-moved {l} {l'} {ps} {c} h e same d low up =
-    record {
-      arena = arena-less (h .arena) d up;
-      first = omega arith;
-      table = λ m k.
-          let x : m < props l = omega arith in
-          ap (λ (n : ℕ). roomAt n ps m) e ∙ h .table m x ∙ sym (same m x);
-      long = h .long;
-    }
-
--- WHAT THE ROOT'S RUN HAS SPENT when it reaches the goal
-pub hole-reached : (l : List ℕ) (R : Rooms) (w : Want) (a : Answer) (st : St) → runOf l R 0 w nothing ≡ ok a st → {g : Gap} → At g (a .tree)
-    → Reached (nodes (termAt l 0)) 0 start g
-hole-reached l R w a st accepted {g} p =
-    subst (λ (m : ℕ). Reached (nodes (termAt l 0)) m start g) (ctx-length (reads l (R .props)) (R .work) 0) (gap-reached (termAt l 0) w _ start a st accepted p)
 
 -- THE RUN OF A FILLING, whose root is term q of the edited table e: the script, of n nodes, reached the hole with so many serials and entries, and all
 -- of the table's terms are nodes of the two, but for the Sorry

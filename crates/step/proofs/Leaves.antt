@@ -1,12 +1,11 @@
--- Laws of the counts, of types taken apart, of the tree's records and of the goals; and the loop of `shift`. Assumes nothing.
-use mathlib.Core.Path.{_≡_, refl, ap, sym, subst, subst⁻¹, _∙_}
-use mathlib.Core.Bool.{Bool, true, false}
+-- Laws of the counts, of the tree's records and of the goals; and the loop of `shift`. Assumes nothing.
+use mathlib.Core.Path.{_≡_, refl, ap, sym, _∙_}
 use mathlib.Core.List.{List, [], _∷_}
 use mathlib.Core.Logic.{_⊎_, inl, inr}
 use Prim.Native.Nat.{ℕ, _+_, _-_, _*_, _<_, _≤_}
 use native.Mathlib.Omega.{arith}
 use native.Mathlib.Nat.{eq-or-lt-of-le}
-use lib.ListN.{length, length-set}
+use lib.ListN.{length, getD, length-set}
 use Rattle.numbers.specs.declared.Name.{Name}
 use Rattle.numbers.specs.declared.Proposition.{Proposition as Number}
 use Rattle.numbers.specs.declared.Sort.{Sort}
@@ -14,23 +13,14 @@ use Rattle.numbers.specs.declared.Sort.the-variants.{Proposition, Datatype}
 use Rattle.numbers.specs.declared.record.Record.{Record}
 use Rattle.numbers.specs.Records.{wordAt, putWord, recordAt, Put}
 use Rattle.numbers.proofs.Records.{word-far, word-same}
+use Rattle.context.specs.Context.{sortOf}
 use Rattle.layout.specs.declared.record.TermRecord.{TermRecord}
 use Rattle.layout.specs.File.{props, asTerm, termRecord}
-use Rattle.rules.specs.Prop.{Link, Quant, made, const, prop, same, same-ty, eq}
-use Rattle.rules.specs.Step.{on-link, on-quant}
-use Rattle.prop.specs.declared.head.Parts.{Parts}
-use Rattle.prop.specs.declared.head.Parts.the-variants as two
-use Rattle.prop.specs.declared.head.Quantified.{Quantified}
-use Rattle.prop.specs.declared.head.Quantified.the-variants as one
-use Rattle.prop.specs.Head.{PartsIs, QuantifiedIs}
-use Rattle.prop.specs.Room.{roomAt, typeAt, TypeIn}
-use Rattle.prop.proofs.Heads.{on-joined, on-no-link, on-bound, on-no-quant}
 use Rattle.step.specs.declared.node.Goal.{Goal}
 use Rattle.step.specs.declared.state.State.{State}
-use Rattle.step.specs.Heads.{SplitAs, OverAs}
 use Rattle.step.specs.Rooms.{numbered}
 use Rattle.step.specs.Shift.{Shifted}
-use Rattle.step.specs.Trees.{nodeRec, goalAt, goalRec, PutGoal}
+use Rattle.step.specs.Trees.{nodeRec, asNode, nodeAt, goalAt, goalRec, PutGoal}
 
 -- A TERM'S RECORD, behind the table's propositions
 pub term-is : (l : List ℕ) (p k : ℕ) (r : TermRecord) → p ≡ props l → r ≡ asTerm (recordAt l (p + k + 1)) → r ≡ termRecord l k
@@ -40,57 +30,39 @@ term-is l p k r e h = h ∙ ap (λ (p : ℕ). asTerm (recordAt l (p + k + 1))) e
 pub numbered-is : (st : State) (n : ℕ) → n ≡ st .serials + 1 → record { records = st .records; goals = st .goals; serials = n; made = st .made; context = st .context } ≡ numbered st
 numbered-is st n h i = record { records = st .records; goals = st .goals; serials = h i; made = st .made; context = st .context }
 
--- A TYPE TAKEN APART: a proposition as its number is; a datatype has no parts
-pub prop-in : (c : ℕ) (T : Sort) (n : Number) → T ≡ Proposition n → TypeIn c T → n .0 < c
-prop-in c T n e h = subst (TypeIn c) e h
-
-module _ (w : List ℕ) (c : ℕ) where
-  split : (h : Link) (n : Number) → n .0 < c → (r : Parts) → PartsIs h w (n .0) r → SplitAs h w c (Proposition n) r
-  split h n k (two.Both a b) p =
-      record {
-        first = omega (arith, p .first);
-        second = omega (arith, p .second);
-        goes = λ tables m f z. on-joined h f z _ _ _ _ (p .whole tables);
-      }
-  split h n k two.Other p = λ tables m f z. on-no-link h f z (roomAt tables w (n .0)) (p tables)
-
-  pub split-prop : (h : Link) (T : Sort) (n : Number) → T ≡ Proposition n → TypeIn c T → (r : Parts) → PartsIs h w (n .0) r → SplitAs h w c T r
-  split-prop h T n e k r p = subst⁻¹ (λ (T : Sort). SplitAs h w c T r) e (split h n (prop-in c T n e k) r p)
-
-  pub split-data : (h : Link) (T : Sort) (d : Name) → T ≡ Datatype d → SplitAs h w c T two.Other
-  unfolding on-link
-  split-data h T d e = subst⁻¹ (λ (T : Sort). SplitAs h w c T two.Other) e (λ tables m f z. refl)
-
-  over : (q : Quant) (n : Number) → n .0 < c → (r : Quantified) → QuantifiedIs q w (n .0) r → OverAs q w c (Proposition n) r
-  over q n k (one.Over D m) p =
-      record {
-        object = recordAt w (n .0) .a;
-        body = omega (arith, p .under);
-        goes = λ tables m f z. on-bound q f z _ _ _ _ _ (p .whole tables);
-      }
-  over q n k one.Other p = λ tables m f z. on-no-quant q f z (roomAt tables w (n .0)) (p tables)
-
-  pub over-prop : (q : Quant) (T : Sort) (n : Number) → T ≡ Proposition n → TypeIn c T → (r : Quantified) → QuantifiedIs q w (n .0) r → OverAs q w c T r
-  over-prop q T n e k r p = subst⁻¹ (λ (T : Sort). OverAs q w c T r) e (over q n (prop-in c T n e k) r p)
-
-  pub over-data : (q : Quant) (T : Sort) (d : Name) → T ≡ Datatype d → OverAs q w c T one.Other
-  unfolding on-quant
-  over-data q T d e = subst⁻¹ (λ (T : Sort). OverAs q w c T one.Other) e (λ tables m f z. refl)
-
-pub truth-prop : (w : List ℕ) (T : Sort) (n : Number) → T ≡ Proposition n → (r : Bool) → ((tables : ℕ) → r ≡ same true (roomAt tables w (n .0)) (const made true)) → (tables : ℕ) → r ≡ eq (typeAt tables w T) (prop (const made true))
-unfolding eq same-ty
-truth-prop w T n e r h tables = rw e (h tables)
-
-pub truth-data : (w : List ℕ) (T : Sort) (d : Name) → T ≡ Datatype d → (tables : ℕ) → false ≡ eq (typeAt tables w T) (prop (const made true))
-unfolding eq same-ty
-truth-data w T d e tables = rw e
-
 -- RECORDS of the tree and of the goals
 pub node-prop : (rule k i j n : ℕ) (T : Sort) (p : Number) → T ≡ Proposition p → record { kind = rule; count = 0; a = k; b = p .0; c = i; parameters = j ∷ n ∷ 0 ∷ 0 ∷ [] } ≡ nodeRec rule k T i j n
 node-prop rule k i j n T p e = ap (λ (T : Sort). nodeRec rule k T i j n) (sym e)
 
 pub node-data : (rule k i j n : ℕ) (T : Sort) (d : Name) → T ≡ Datatype d → record { kind = rule; count = 1; a = k; b = d .0; c = i; parameters = j ∷ n ∷ 0 ∷ 0 ∷ [] } ≡ nodeRec rule k T i j n
 node-data rule k i j n T d e = ap (λ (T : Sort). nodeRec rule k T i j n) (sym e)
+
+-- `node_at` reads what the bytes say, and reads back what `node` said
+pub node-is : (w : List ℕ) (n : ℕ) (r : Record) (T : Sort) → r ≡ recordAt w n → T ≡ sortOf (r .count) (r .b)
+    → record {
+      rule = r .kind;
+      term = record { 0 = r .a };
+      conclusion = T;
+      first = record { 0 = r .c };
+      second = record { 0 = getD (r .parameters) 0 0 };
+      premises = getD (r .parameters) 1 0;
+    }
+    ≡ nodeAt w n
+node-is w n r T er e =
+    (λ i. record {
+      rule = r .kind;
+      term = record { 0 = r .a };
+      conclusion = e i;
+      first = record { 0 = r .c };
+      second = record { 0 = getD (r .parameters) 0 0 };
+      premises = getD (r .parameters) 1 0;
+    })
+    ∙ ap asNode er
+
+pub node-back : (rule k i j n : ℕ) (T : Sort)
+    → asNode (nodeRec rule k T i j n) ≡ record { rule = rule; term = record { 0 = k }; conclusion = T; first = record { 0 = i }; second = record { 0 = j }; premises = n }
+node-back rule k i j n (Proposition p) = refl
+node-back rule k i j n (Datatype d) = refl
 
 pub goal-prop : (k n : ℕ) (T : Sort) (p : Number) → T ≡ Proposition p → record { term = record { 0 = k }; proposition = p; context = n; zero = 0 } ≡ goalRec k T n
 goal-prop k n T p e = ap (λ (T : Sort). goalRec k T n) (sym e)
@@ -102,6 +74,10 @@ goal-data k n T d e = ap (λ (T : Sort). goalRec k T n) (sym e)
 goal-words : (w : List ℕ) (n : ℕ) (g : Goal) → wordAt w (8 * n) ≡ g .term .0 → wordAt w (8 * n + 2) ≡ g .proposition .0 → wordAt w (8 * n + 4) ≡ g .context → wordAt w (8 * n + 6) ≡ g .zero → goalAt w n ≡ g
 unfolding goalAt
 goal-words w n g t p c z i = record { term = record { 0 = t i }; proposition = record { 0 = p i }; context = c i; zero = z i }
+
+pub goal-is : (w : List ℕ) (n t p c z : ℕ) → t ≡ wordAt w (8 * n) → p ≡ wordAt w (8 * n + 2) → c ≡ wordAt w (8 * n + 4) → z ≡ wordAt w (8 * n + 6)
+    → record { term = record { 0 = t }; proposition = record { 0 = p }; context = c; zero = z } ≡ goalAt w n
+goal-is w n t p c z et ep ec ez = sym (goal-words w n _ (sym et) (sym ep) (sym ec) (sym ez))
 
 -- the room after the four stores of `put_goal`, store by store
 abbrev stored₁ : List ℕ → ℕ → Goal → List ℕ

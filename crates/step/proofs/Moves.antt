@@ -195,9 +195,6 @@ module _ (l old new : List ℕ) (c left : ℕ) (st : State) (k : ℕ → ℕ) (P
       omega (arith, h .propositions)
 
   -- it would be too many
-  pub full-same : o ≡ Full → new ≡ old
-  full-same q = subst (MadeIs old c left k P new) q is .0
-
   pub full-room : o ≡ Full → room (k (props l)) (stOf st) ≡ false
   full-room q = let over : left < k (props l) = subst (MadeIs old c left k P new) q is .1 (props l) in lt-leb (st .made + k (props l)) limit (omega arith)
 

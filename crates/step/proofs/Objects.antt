@@ -9,6 +9,7 @@ use Rattle.numbers.specs.declared.Name.{Name}
 use Rattle.numbers.specs.declared.Proposition.{Proposition}
 use Rattle.numbers.specs.declared.Sort.{Sort}
 use Rattle.numbers.specs.declared.Sort.the-variants as sort
+use Rattle.numbers.specs.declared.refusal.Refusal.{Refusal}
 use Rattle.numbers.specs.Limits.{largest}
 use Rattle.layout.specs.declared.record.TermRecord.{TermRecord}
 use Rattle.layout.specs.File.{props, terms, termRecord, kinds, kind-of}
@@ -34,10 +35,13 @@ use Rattle.context.specs.declared.identifier_context.Found.the-variants.{Held, 
 use Rattle.context.specs.Context.{entryAt, most-entries, context-room, Inserted, stands, Latest}
 use Rattle.context.proofs.Laws.{ctx-inserted, held-finds, nothing-finds}
 use Rattle.step.specs.declared.state.State.{State}
+use Rattle.step.specs.declared.state.Want.{Want}
 use Rattle.step.specs.declared.open.Object.the-variants as object
-use Rattle.step.specs.Heads.{Over, OverAs}
+use Rattle.prop.specs.Head.{Over, OverAs}
 use Rattle.step.specs.Rooms.{Table, rooms, reads, ctxOf, stOf, countOf, numbered, deeper, Entries, most-serials}
+use Rattle.step.specs.Modes.{number-of}
 use Rattle.step.specs.Steps.{Stops, ObjectAs, LetEntered}
+use Rattle.step.proofs.Refusing.{mode-refusal}
 use Rattle.step.proofs.Pictures.{entered-picture}
 use Rattle.step.proofs.Terms.{is-ident}
 use Rattle.step.proofs.Moves.{GrownTo, MadeFor, made-for, made-more, made-few, make-goes, make-stops, full-room, entered-entries}
@@ -63,34 +67,43 @@ other-name t A sub (suc (suc (suc (suc (suc (suc (suc (suc (suc (suc (suc (suc (
 other-name t A sub (suc (suc (suc (suc (suc (suc (suc (suc (suc (suc (suc (suc (suc (suc n)))))))))))))) r h = refl
 
 -- THE OBJECT THAT TERM t NAMES
-module _ {l : List ℕ} (table : Table l) {t : ℕ} (h : t < terms l) (r : TermRecord) (er : r ≡ termRecord l t) (work : List ℕ) (st : State) (ps : List ℕ) where
+module _ {l : List ℕ} (table : Table l) {t : ℕ} (h : t < terms l) (r : TermRecord) (er : r ≡ termRecord l t) (work : List ℕ) (w : Want) (st : State) (ps : List ℕ) where
   abbrev Γ : Ctx
   Γ = ctxOf l ps work (st .context)
 
-  pub object-none : (r .kind ≡ 0 → ⊥) → ObjectAs l ps work t st object.NoIdent
+  abbrev n₁ : ℕ
+  n₁ = number-of w 13 24
+
+  abbrev n₂ : ℕ
+  n₂ = number-of w 10 20
+
+  pub object-none : (r .kind ≡ 0 → ⊥) → (n : ℕ) → n ≡ number-of w 13 24 → (e : Refusal) → e ≡ record { number = n; place = t } → ObjectAs l ps work w t st (object.Refused e)
   unfolding objected obey named
-  object-none d a n m k ks e =
-      let no : ident-name (termAt l t) ≡ none =
+  object-none d n en e ee =
+      let bare : ident-name (termAt l t) ≡ none =
       ap ident-name (term-step (table .directed) t h)
       ∙ other-name t (annotated l t) (termAt l) (termRecord l t .kind) (termRecord l t) (subst (λ (r : TermRecord). r .kind ≡ 0 → ⊥) er d) in
-      ap (λ (x : Option ℕ). named x (refused n t) (λ y. obey (look-up m t Γ y (λ e. k (e .serial))) ks (stOf st))) (e ∙ no)
+      subst⁻¹ (λ (e : Refusal). ObjectAs l ps work w t st (object.Refused e)) (mode-refusal e n n₁ t en ee)
+      (λ a k ks i. ap (λ (x : Option ℕ). named x (refused n₁ t) (λ y. obey (look-up n₂ t Γ y (λ e. k (e .serial))) ks (stOf st))) (i ∙ bare))
 
   module _ (kind : r .kind ≡ 0) (f : Found) (is : Latest work (st .context) (r .name1 .0) f) where
-    object-goes : (o : Option Hypothesis) → find (r .name1 .0) Γ ≡ o → {a : Arity} (n m : ℕ) (k : ℕ → Prog (more a)) (ks : Kids (more a)) → ks .0 .ident ≡ ident-name (termAt l t)
-        → obey (objected n m t Γ k) ks (stOf st) ≡ obey (on-found o (λ e. k (e .serial)) (refuse m t)) ks (stOf st)
+    object-goes : (o : Option Hypothesis) → find (r .name1 .0) Γ ≡ o → {a : Arity} (k : ℕ → Prog (more a)) (ks : Kids (more a)) → ks .0 .ident ≡ ident-name (termAt l t)
+        → obey (objected n₁ n₂ t Γ k) ks (stOf st) ≡ obey (on-found o (λ e. k (e .serial)) (refuse n₂ t)) ks (stOf st)
     unfolding objected obey named look-up ident-name
-    object-goes o q n m k ks e =
+    object-goes o q k ks e =
         let name : ident-name (termAt l t) ≡ some (r .name1 .0) = ap ident-name (is-ident table h (ap (λ (r : TermRecord). r .kind) (sym er) ∙ kind)) ∙ ap (λ (r : TermRecord). some (r .name1 .0)) (sym er) in
-        ap (λ (x : Option ℕ). named x (refused n t) (λ y. obey (look-up m t Γ y (λ e. k (e .serial))) ks (stOf st))) (e ∙ name)
-        ∙ ap (λ (o : Option Hypothesis). obey (on-found o (λ e. k (e .serial)) (refuse m t)) ks (stOf st)) q
+        ap (λ (x : Option ℕ). named x (refused n₁ t) (λ y. obey (look-up n₂ t Γ y (λ e. k (e .serial))) ks (stOf st))) (e ∙ name)
+        ∙ ap (λ (o : Option Hypothesis). obey (on-found o (λ e. k (e .serial)) (refuse n₂ t)) ks (stOf st)) q
 
-    pub object-unknown : f ≡ Nothing → ObjectAs l ps work t st object.Unknown
+    pub object-unknown : f ≡ Nothing → (n : ℕ) → n ≡ number-of w 10 20 → (e : Refusal) → e ≡ record { number = n; place = t } → ObjectAs l ps work w t st (object.Refused e)
     unfolding obey on-found
-    object-unknown q a n m k ks e = object-goes none (nothing-finds (reads l ps) is q) n m k ks e
+    object-unknown q n en e ee =
+        subst⁻¹ (λ (e : Refusal). ObjectAs l ps work w t st (object.Refused e)) (mode-refusal e n n₂ t en ee)
+        (λ a k ks i. object-goes none (nothing-finds (reads l ps) is q) k ks i)
 
-    pub object-known : (e : Entry) → f ≡ Held e → ObjectAs l ps work t st (object.Known (e .serial))
+    pub object-known : (e : Entry) → f ≡ Held e → ObjectAs l ps work w t st (object.Known (e .serial))
     unfolding on-found
-    object-known e q a n m k ks i = object-goes (some (stands (reads l ps) e)) (held-finds (reads l ps) is q) n m k ks i
+    object-known e q a k ks i = object-goes (some (stands (reads l ps) e)) (held-finds (reads l ps) is q) k ks i
 
 -- ROOM for the entries of a let
 module _ (work : List ℕ) (st s : State) (es : s .serials ≡ st .serials) (ec : s .context ≡ st .context) (few : st .context + 2 ≤ most-entries) (long : context-room ≤ length work) (serials : st .serials + 2 ≤ most-serials) where
@@ -104,10 +117,15 @@ module _ (work : List ℕ) (st s : State) (es : s .serials ≡ st .serials) (ec 
       (omega arith, (omega arith, omega arith))
 
 -- A LET OPENED, at a head of type H
-module _ (l ps work : List ℕ) (H : Sort) (n p head : ℕ) (st : State) (count : ℕ) (o : Quantified) (is : OverAs ex ps count H o) where
-  pub let-other : o ≡ one.Other → (a : Arity) (k : ℕ → ℕ → ℕ → Prop → Prog a) → Stops (let-opening n p head (reads l ps H) k) st n head
+module _ (l ps work : List ℕ) (w : Want) (H : Sort) (p head : ℕ) (st : State) (count : ℕ) (o : Quantified) (is : OverAs ex ps count H o) where
+  abbrev n : ℕ
+  n = number-of w 12 22
+
+  pub let-other : o ≡ one.Other → (m : ℕ) → m ≡ number-of w 12 22 → (r : Refusal) → r ≡ record { number = m; place = head } → (a : Arity) (k : ℕ → ℕ → ℕ → Prop → Prog a) → Stops (let-opening n p head (reads l ps H) k) st r
   unfolding let-opening obey
-  let-other e a k ks = ap (λ (q : Prog a). obey q ks (stOf st)) (subst (OverAs ex ps count H) e is (props l) a _ _)
+  let-other e m em r er a k =
+      subst⁻¹ (λ (r : Refusal). Stops (let-opening n p head (reads l ps H) k) st r) (mode-refusal r m n head em er)
+      (λ ks. ap (λ (q : Prog a). obey q ks (stOf st)) (subst (OverAs ex ps count H) e is (props l) a _ _))
 
   module _ (D : Name) (b : Proposition) (e : o ≡ one.Over D b) where
     over : Over ex ps count H (D .0) (b .0)
@@ -120,9 +138,10 @@ module _ (l ps work : List ℕ) (H : Sort) (n p head : ℕ) (st : State) (count 
     B = roomAt (props l) ps (b .0)
 
     module _ (left : ℕ) (ps' : List ℕ) (z : Made) (ec : count ≡ countOf l st) (el : left + st .made ≡ limit) (makes : PutIs ps count left (b .0) (st .serials) ps' z) where
-      pub let-full : z ≡ Full → (a : Arity) (k : ℕ → ℕ → ℕ → Prop → Prog a) → Stops (let-opening n p head (reads l ps H) k) st 30 p
+      pub let-full : z ≡ Full → (r : Refusal) → r ≡ record { number = 30; place = p } → (a : Arity) (k : ℕ → ℕ → ℕ → Prop → Prog a) → Stops (let-opening n p head (reads l ps H) k) st r
       unfolding let-opening obey
-      let-full q a k ks =
+      let-full q r er a k =
+          subst⁻¹ (λ (r : Refusal). Stops (let-opening n p head (reads l ps H) k) st r) er λ ks.
           ap (λ (q : Prog a). obey q ks (stOf st)) (over .goes (props l) a _ _)
           ∙ make-stops {n = a} (size B) p (k (st .serials) (suc (st .serials)) (D .0) (put (st .serials) B)) ks (next (next (stOf st))) (full-room l ps ps' count left st _ _ z ec el makes q)
 
@@ -167,7 +186,7 @@ module _ (l ps work : List ℕ) (H : Sort) (n p head : ℕ) (st : State) (count 
           stands-for : reads l ps' (sort.Proposition m) ≡ prop (put (st .serials) B)
           stands-for = made .stands .means
 
-          entered-last : LetEntered l ps work ps' w₂ (x .0) (y .0) H n p head st last
+          entered-last : LetEntered l ps work ps' w₂ (x .0) (y .0) w H p head st last
           unfolding let-opening obey
           entered-last =
               let eq : s .made ≡ st .made + spent = ap (λ (s : State). s .made) (made .making .state) in
@@ -203,5 +222,5 @@ module _ (l ps work : List ℕ) (H : Sort) (n p head : ℕ) (st : State) (count 
                     ∙ (λ j. obey (k (st .serials) (one-more j) (D .0) (put (st .serials) B)) ks (record { serials = two-more j; made = same-size j }));
               }
 
-          pub let-entered : LetEntered l ps work ps' w₂ (x .0) (y .0) H n p head st s₂
-          let-entered = subst⁻¹ (LetEntered l ps work ps' w₂ (x .0) (y .0) H n p head st) is-last entered-last
+          pub let-entered : LetEntered l ps work ps' w₂ (x .0) (y .0) w H p head st s₂
+          let-entered = subst⁻¹ (LetEntered l ps work ps' w₂ (x .0) (y .0) w H p head st) is-last entered-last

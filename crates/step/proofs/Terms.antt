@@ -1,19 +1,16 @@
 -- How each kind of term begins: its rule's program over its children's runs, where its children stand, how many nodes it has. Assumes nothing.
-use mathlib.Core.Path.{_≡_, refl, ap, sym, subst, subst⁻¹, _∙_}
-use mathlib.Core.Bool.{Bool, true, false, cond}
+use mathlib.Core.Path.{_≡_, refl, ap, subst, subst⁻¹, _∙_}
 use mathlib.Core.List.{List, [], _∷_}
-use Prim.Native.Nat.{ℕ, _+_, _<_, _≤_}
-use native.Mathlib.Omega.{arith}
-use lib.Dec.{eqb}
+use Prim.Native.Nat.{ℕ, _+_, _<_}
 use Rattle.layout.specs.declared.record.TermRecord.{TermRecord}
 use Rattle.layout.specs.File.{terms, termRecord, Kind, Ident, Pair, ProjectFst, ProjectSnd, Function, Application, LetIn, OrLeft, OrRight, Case, Abort, TheUnit, TypeAscription, Sorry, kinds, kind-of}
 use Rattle.layout.specs.Form.{term-shape}
 use Rattle.rules.specs.Context.{Ctx}
 use Rattle.rules.specs.Term.{Leaf, Single, Double, Triple, Term, leaf, single, double, triple, sorry, nodes, place}
 use Rattle.rules.specs.Tree.{end}
-use Rattle.rules.specs.Step.{Want, Answer, Out, Arity, Step, Kids, obey}
+use Rattle.rules.specs.Step.{Want, obey}
 use Rattle.rules.specs.Rules.{run, leaf-step, single-step, double-step, triple-step}
-use Rattle.table.specs.Links.{hits, term-children, term-links}
+use Rattle.table.specs.Links.{hits, term-children}
 use Rattle.table.specs.Reading.{annotated, ascribed, term-of, termAt}
 use Rattle.table.proofs.Sums.{hit-here, hit-later}
 use Rattle.table.proofs.Links.{term-child}
@@ -21,8 +18,8 @@ use Rattle.table.proofs.Reading.{term-step, place-at}
 use Rattle.step.specs.declared.state.State.{State}
 use Rattle.step.specs.Rooms.{Rooms, ctxOf, stOf, Table}
 use Rattle.step.specs.Contract.{runOf}
-use Rattle.step.proofs.Programs.{rest, rest-start}
-use Rattle.step.proofs.Doing.{kidAt}
+use Rattle.step.specs.Under.{rest, kidAt}
+use Rattle.step.proofs.Programs.{rest-start}
 
 -- HOW A TERM BEGINS, from its shape: the rule's program, over its children
 module _ (l : List ℕ) (k : ℕ) (R : Rooms) (w : Want) (st : State) where

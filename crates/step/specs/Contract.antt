@@ -4,25 +4,24 @@ use mathlib.Core.List.{List}
 use Prim.Native.Nat.{ℕ, _+_, _*_, _<_, _≤_}
 use lib.ListN.{length}
 use Rattle.numbers.specs.declared.Sort.{Sort}
+use Rattle.numbers.specs.declared.refusal.Refusal.{Refusal}
 use Rattle.numbers.specs.Records.{Same}
 use Rattle.layout.specs.File.{terms}
 use mathlib.Core.Bool.{Bool, _||_}
-use mathlib.Core.List.{[], _∷_}
 use lib.Dec.{eqb}
-use Rattle.rules.specs.Prop.{Ty}
 use Rattle.rules.specs.Term.{nodes}
 use Rattle.rules.specs.Tree.{Trees, records, holes}
-use Rattle.rules.specs.Step.{Want, synth, check, Out, refused, ok, Answer, Steps, obey}
-use Rattle.rules.specs.Rules.{kid, run, applying}
+use Rattle.rules.specs.Step.{Want as Mode, Refusal as Fault, refusal, Out, stop, ok, Answer}
+use Rattle.rules.specs.Rules.{run}
 use Rattle.table.specs.Reading.{termAt}
 use Rattle.prop.specs.Room.{Arena}
 use Rattle.context.specs.Context.{SameEntries}
 use Rattle.step.specs.declared.state.State.{State}
-use Rattle.step.specs.declared.state.Checked.{Checked}
-use Rattle.step.specs.declared.state.Checked.the-variants as checked
-use Rattle.step.specs.declared.state.Synthesized.{Synthesized}
-use Rattle.step.specs.declared.state.Synthesized.the-variants as synthesized
-use Rattle.step.specs.Rooms.{Rooms, Base, Stands, reads, ctxOf, stOf, countOf, most-nodes, most-goals}
+use Rattle.step.specs.declared.state.Want.{Want}
+use Rattle.step.specs.declared.state.Ran.{Ran}
+use Rattle.step.specs.declared.state.Ran.the-variants as ran
+use Rattle.step.specs.Rooms.{Rooms, Base, Stands, ctxOf, stOf, countOf, most-nodes, most-goals, serials-cap, entries-cap}
+use Rattle.step.specs.Modes.{mode}
 use Rattle.step.specs.Trees.{SameGoals, TreesAre}
 use Rattle.step.specs.Picture.{asked, SamePicture, PicturesAre}
 
@@ -32,8 +31,8 @@ pub record Ready (l : List ℕ) (R : Rooms) (k : ℕ) (st : State) : Type 0 wher
   pub here : k < terms l
   pub records : st .records + 2 * nodes (termAt l k) ≤ most-nodes
   pub goals : st .goals + nodes (termAt l k) ≤ most-goals
-  pub serials : st .serials + 2 * nodes (termAt l k) ≤ 2 * terms l
-  pub context : st .context + 2 * nodes (termAt l k) ≤ 2 * terms l
+  pub serials : st .serials + 2 * nodes (termAt l k) ≤ serials-cap l
+  pub context : st .context + 2 * nodes (termAt l k) ≤ entries-cap l
 
 -- THE FRAME: there are now d propositions; the first c of them, r tree records, g goals and n entries are kept, and the picture if it is of such a goal
 pub record Grown (R R' : Rooms) (c d r g n : ℕ) : Type 0 where
@@ -69,43 +68,22 @@ pub record Answers (l : List ℕ) (R R' : Rooms) (st st' : State) (T : Sort) (o 
   pub accepted : Accepts l R R' st st' o
   pub type : Stands l (R' .props) (countOf l st') T (accepted .answer .ty)
 
--- THE ANSWERS, by cases: a refusal's number and place are the rules'
-abbrev pub CheckedAs : (l : List ℕ) → (R R' : Rooms) → State → Out Answer → Checked → Type 0
-CheckedAs l R R' st o (checked.Fits st') = Accepts l R R' st st' o
-CheckedAs l R R' st o (checked.Refused n p) = o ≡ refused n (p .0)
-
-abbrev pub SynthesizedAs : (l : List ℕ) → (R R' : Rooms) → State → Out Answer → Synthesized → Type 0
-SynthesizedAs l R R' st o (synthesized.Has T st') = Answers l R R' st st' T o
-SynthesizedAs l R R' st o (synthesized.Refused n p) = o ≡ refused n (p .0)
-
 -- the run of term k
-abbrev pub runOf : (l : List ℕ) → Rooms → ℕ → Want → State → Out Answer
+abbrev pub runOf : (l : List ℕ) → Rooms → ℕ → Mode → State → Out Answer
 runOf l R k w st = run (termAt l k) w (ctxOf l (R .props) (R .work) (st .context)) (stOf st)
 
--- THE CONTRACTS of check and of synthesize, and of each rule of theirs
-abbrev pub CheckMeets : (l : List ℕ) → (R R' : Rooms) → ℕ → Sort → State → Checked → Type 0
-CheckMeets l R R' k goal st r = CheckedAs l R R' st (runOf l R k (check (reads l (R .props) goal)) st) r
+-- a refusal, as the rules have it
+abbrev pub refusal-of : Refusal → Fault
+refusal-of r = refusal (r .number) (r .place)
 
-abbrev pub SynthMeets : (l : List ℕ) → (R R' : Rooms) → ℕ → State → Synthesized → Type 0
-SynthMeets l R R' k st r = SynthesizedAs l R R' st (runOf l R k synth st) r
+abbrev pub Refuses : {X : Type 0} → Out X → Refusal → Type 0
+Refuses o r = o ≡ stop (refusal-of r)
+
+-- THE CONTRACT of check and of synthesize: term k, run as it is wanted from the rooms R and the counts st, has come to this
+abbrev pub RanAs : (l : List ℕ) → (R R' : Rooms) → ℕ → Want → State → Ran → Type 0
+RanAs l R R' k w st (ran.Has T st') = Answers l R R' st st' T (runOf l R k (mode l (R .props) w) st)
+RanAs l R R' k w st (ran.Refused r) = Refuses (runOf l R k (mode l (R .props) w) st) r
 
 -- the kinds whose check is a comparison: Ident, projections, Application
 unfoldable pub synthesizes : ℕ → Bool
 synthesizes k = eqb k 0 || (eqb k 2 || (eqb k 3 || eqb k 5))
-
--- IN THE MIDDLE of an application k, whose function f has a type F that is no Impl, before its argument x: `applying` is what is left of the rule
-pub record Applied (l : List ℕ) (R R' : Rooms) (k : ℕ) (st st' : State) (T : Sort) (o : Out Steps) : Type 0 where
-  pub typ : Ty
-  pub premises : Trees
-  pub accepts : o ≡ ok (record { ty = typ; nodes = record { rule = 12; term = k; concludes = typ; serials = [] } ∷ []; premises = premises }) (stOf st')
-  pub stands : Stands l (R' .props) (countOf l st') T typ
-  pub left : Left l R R' st st' premises
-
-abbrev pub AppliedAs : (l : List ℕ) → (R R' : Rooms) → ℕ → State → Out Steps → Synthesized → Type 0
-AppliedAs l R R' k st o (synthesized.Has T st') = Applied l R R' k st st' T o
-AppliedAs l R R' k st o (synthesized.Refused n p) = o ≡ refused n (p .0)
-
-abbrev pub ArgumentMeets : (l : List ℕ) → (R R' : Rooms) → (k f x : ℕ) → Sort → State → Synthesized → Type 0
-ArgumentMeets l R R' k f x T st r =
-    AppliedAs l R R' k st
-    (obey (applying k f x (ctxOf l (R .props) (R .work) (st .context)) (reads l (R .props) T)) (kid (termAt l x) (run (termAt l x)), tt) (stOf st)) r

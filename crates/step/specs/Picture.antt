@@ -6,7 +6,6 @@ use Prim.Native.Nat.{ℕ, zero, suc, _+_, _*_, _<_, _≤_}
 use lib.ListN.{length, getD}
 use Rattle.numbers.specs.declared.Sort.{Sort}
 use Rattle.numbers.specs.Records.{wordAt}
-use Rattle.layout.specs.File.{terms}
 use Rattle.rules.specs.Prop.{Ty}
 use Rattle.rules.specs.Context.{Ctx}
 use Rattle.rules.specs.State.{limit}
@@ -15,7 +14,7 @@ use Rattle.prop.specs.Room.{TypeIn}
 use Rattle.context.specs.declared.identifier_context.Entry.{Entry}
 use Rattle.context.specs.Context.{most-entries, context-room, entryAt, stands}
 use Rattle.step.specs.declared.state.State.{State}
-use Rattle.step.specs.Rooms.{stOf, countOf, starting, reads, ctxOf, Stands, Entries, first-pictured}
+use Rattle.step.specs.Rooms.{stOf, countOf, starting, reads, ctxOf, Stands, Entries, first-pictured, serials-cap, entries-cap}
 
 -- THE PLACE. Its head is four numbers of 16 bits (the goal that is asked for, and the counts at the hole: serials, propositions made, entries) and an
 -- entry, of which only the type says something: it is the wanted one. The hole's entries follow
@@ -64,8 +63,8 @@ pub record PictureIs (l ps w : List ℕ) (c : ℕ) (g : Gap) : Type 0 where
   pub context : picturedCtx (reads l ps) w (picturedState w .context) ≡ g .ctx
   pub still : countOf l (picturedState w) ≤ c
   pub few-made : picturedState w .made ≤ limit
-  pub few-serials : picturedState w .serials + 2 ≤ 2 * terms l
-  pub few-entries : picturedState w .context + 2 ≤ 2 * terms l
+  pub few-serials : picturedState w .serials + 2 ≤ serials-cap l
+  pub few-entries : picturedState w .context + 2 ≤ entries-cap l
 
 -- of these trees, whose first gap is goal m, the goal that is asked for has its picture
 unfoldable pub PicturesAre : (l ps w : List ℕ) → (c m : ℕ) → Trees → Type 0
@@ -106,5 +105,5 @@ pub record StartsAt (l ps w : List ℕ) (g : Gap) (T : Sort) (st : State) : Type
   pub entries : Entries w (st .context) (countOf l st)
   pub context : ctxOf l ps w (st .context) ≡ g .ctx
   pub few-made : st .made ≤ limit
-  pub few-serials : st .serials + 2 ≤ 2 * terms l
-  pub few-entries : st .context + 2 ≤ 2 * terms l
+  pub few-serials : st .serials + 2 ≤ serials-cap l
+  pub few-entries : st .context + 2 ≤ entries-cap l

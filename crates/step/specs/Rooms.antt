@@ -5,8 +5,7 @@ use Prim.Native.Nat.{ℕ, _+_, _*_, _<_, _≤_}
 use lib.ListN.{length}
 use Rattle.numbers.specs.declared.Sort.{Sort}
 use Rattle.numbers.specs.Limits.{most-terms}
-use Rattle.numbers.specs.Records.{Same}
-use Rattle.layout.specs.File.{props}
+use Rattle.layout.specs.File.{props, terms}
 use Rattle.rules.specs.Prop.{Ty}
 use Rattle.rules.specs.Context.{Ctx}
 use Rattle.rules.specs.State.{St, limit}
@@ -26,6 +25,13 @@ most-goals = most-terms
 
 abbrev pub most-serials : ℕ
 most-serials = 2 * most-terms
+
+-- HOW MANY A RUN OF THIS TABLE CAN COME TO: no term gives more than two serials and two entries
+abbrev pub serials-cap : List ℕ → ℕ
+serials-cap l = 2 * terms l
+
+abbrev pub entries-cap : List ℕ → ℕ
+entries-cap l = 2 * terms l
 
 -- THE WORK ROOM: the context's entries, and behind them a goal's picture (Picture.antt), whose own entries come after a head of two entries' worth
 abbrev pub first-pictured : ℕ

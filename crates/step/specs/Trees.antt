@@ -1,21 +1,37 @@
 -- Document 01, "Tree, goals, filling": the records of a proof tree and of its goals, and which bytes hold a given tree. Assumes nothing.
 use mathlib.Core.Path.{_≡_}
 use mathlib.Core.List.{List, [], _∷_}
-use Prim.Native.Nat.{ℕ, zero, suc, _+_, _*_, _<_, _≤_}
+use Prim.Native.Nat.{ℕ, zero, _+_, _*_, _<_}
 use lib.ListN.{length, getD}
 use Rattle.numbers.specs.declared.Sort.{Sort}
 use Rattle.numbers.specs.declared.record.Record.{Record}
 use Rattle.numbers.specs.Limits.{none}
 use Rattle.numbers.specs.Records.{wordAt, recordAt}
-use Rattle.context.specs.Context.{tagOf, numberOf}
+use Rattle.context.specs.Context.{tagOf, numberOf, sortOf}
 use Rattle.rules.specs.Tree.{Node, Gap, Trees, end, gap, node, records, holes, width}
 use Rattle.step.specs.declared.node.Goal.{Goal}
+use Rattle.step.specs.declared.node.NodeRecord.{NodeRecord}
 use Rattle.step.specs.Rooms.{Rooms, Stands}
 
 -- A TREE RECORD: rule, tag, term, proposition or datatype, two serials, premises, zeros
 abbrev pub nodeRec : (rule term : ℕ) → Sort → (first second premises : ℕ) → Record
 nodeRec rule k T i j n =
     record { kind = rule; count = tagOf T; a = k; b = numberOf T; c = i; parameters = j ∷ n ∷ 0 ∷ 0 ∷ [] }
+
+-- what any record says as a node; and node n of a room
+abbrev pub asNode : Record → NodeRecord
+asNode r =
+    record {
+      rule = r .kind;
+      term = record { 0 = r .a };
+      conclusion = sortOf (r .count) (r .b);
+      first = record { 0 = r .c };
+      second = record { 0 = getD (r .parameters) 0 0 };
+      premises = getD (r .parameters) 1 0;
+    }
+
+abbrev pub nodeAt : List ℕ → ℕ → NodeRecord
+nodeAt w n = asNode (recordAt w n)
 
 -- its serials, where there are some
 abbrev pub first-serial : List ℕ → ℕ
@@ -27,7 +43,12 @@ second-serial is = getD is 1 none
 -- A GOAL RECORD: term, proposition, context length, zero, 16 bits each
 unfoldable pub goalAt : List ℕ → ℕ → Goal
 goalAt w i =
-    record { term = record { 0 = wordAt w (8 * i) }; proposition = record { 0 = wordAt w (8 * i + 2) }; context = wordAt w (8 * i + 4); zero = wordAt w (8 * i + 6) }
+    record {
+      term = record { 0 = wordAt w (8 * i) };
+      proposition = record { 0 = wordAt w (8 * i + 2) };
+      context = wordAt w (8 * i + 4);
+      zero = wordAt w (8 * i + 6);
+    }
 
 abbrev pub goalRec : (term : ℕ) → Sort → (context : ℕ) → Goal
 goalRec k T n = record { term = record { 0 = k }; proposition = record { 0 = numberOf T }; context = n; zero = 0 }

@@ -1,8 +1,6 @@
 // Floor 5: what the cycle of check and synthesize asks and promises, and those parts of the rules that do not recurse.
 
 pub mod enter;
-pub mod head;
-pub mod leaf;
 pub mod node;
 pub mod open;
 pub mod picture;

@@ -3,7 +3,8 @@ ghost use mathlib.Core.Path.{_≡_};
 ghost use Prim.Native.Nat.{_+_, _*_, _≤_};
 ghost use lib.ListN.{length};
 ghost use Rattle.numbers.specs.Records.{Put};
-ghost use Rattle.step.specs.Trees.{nodeRec, goalAt, goalRec, PutGoal};
+ghost use Rattle.step.specs.Trees.{nodeRec, nodeAt, goalAt, goalRec, PutGoal};
+use context::identifier_context::sort_of;
 use numbers::Proposition;
 use numbers::Serial;
 use numbers::Sort;
@@ -11,6 +12,8 @@ use numbers::Term;
 use numbers::record::Record;
 use numbers::record::put;
 use numbers::record::put_word;
+use numbers::record::record_at;
+use numbers::record::word;
 
 // Document 01, the rules' numbers in the tree.
 pub const IDENT: u8 = 0;
@@ -46,6 +49,16 @@ pub const EXISTS_ELIM: u8 = 14;
 pub const SORRY: u8 = 15;
 
 pub const ALPHA_EQ: u8 = 16;
+
+// What a node's sixteen bytes say: where it has no serial stands `Serial::NONE`.
+pub struct NodeRecord {
+    pub rule: u8,
+    pub term: Term,
+    pub conclusion: Sort,
+    pub first: Serial,
+    pub second: Serial,
+    pub premises: u16,
+}
 
 // What a goal's eight bytes say.
 pub struct Goal {
@@ -87,6 +100,22 @@ pub fn put_node(tree: &mut [u8], at: u16, r: Record)
     put(tree, at as usize, r);
 }
 
+// Node n of the tree, whatever its bytes are.
+pub fn node_at(tree: &[u8], n: u16) -> NodeRecord
+    requires { ⌜ 16 * n + 16 ≤ length (now tree) ⌝ }
+    ensures { λ r. ⌜ r ≡ nodeAt (now (tree .entry)) n ⌝ }
+{
+    let r = record_at(tree, n as usize);
+    NodeRecord {
+        rule: r.kind,
+        term: Term(r.a),
+        conclusion: sort_of(r.count as u16, r.b),
+        first: Serial(r.c),
+        second: Serial(r.parameters[0]),
+        premises: r.parameters[1],
+    }
+}
+
 // Goal number `at`.
 pub fn put_goal(goals: &mut [u8], at: u16, g: Goal)
     requires { ⌜ 8 * at + 8 ≤ length (now goals) ⌝ }
@@ -97,6 +126,20 @@ pub fn put_goal(goals: &mut [u8], at: u16, g: Goal)
     put_word(goals, i + 2, g.proposition.0);
     put_word(goals, i + 4, g.context);
     put_word(goals, i + 6, g.zero);
+}
+
+// Goal number i, whatever its bytes are.
+pub fn goal_at(goals: &[u8], i: u16) -> Goal
+    requires { ⌜ 8 * i + 8 ≤ length (now goals) ⌝ }
+    ensures { λ r. ⌜ r ≡ goalAt (now (goals .entry)) i ⌝ }
+{
+    let at = 8 * (i as usize);
+    Goal {
+        term: Term(word(goals, at)),
+        proposition: Proposition(word(goals, at + 2)),
+        context: word(goals, at + 4),
+        zero: word(goals, at + 6),
+    }
 }
 
 // What a Sorry wants, in a context of so many entries. (No accepted run has a goal that wants a datatype.)

@@ -7,6 +7,7 @@ ghost use Rattle.rules.specs.State.{limit};
 ghost use Rattle.layout.specs.File.{props, terms, termRecord};
 ghost use Rattle.arena.specs.Copy.{«most-records»};
 ghost use Rattle.table.specs.Passing.{Counted};
+ghost use Rattle.step.specs.Modes.{«answer-of», «number-of»};
 ghost use Rattle.step.specs.Rooms.{countOf, inner, leaving};
 use layout::header::proposition_count;
 use layout::record::TermRecord;
@@ -14,6 +15,7 @@ use layout::record::term_at;
 use numbers::Proposition;
 use numbers::Sort;
 use numbers::Term;
+use numbers::refusal::Refusal;
 
 // The counts: tree records, goals, serials and propositions made so far, and how many entries the context has.
 pub struct State {
@@ -24,16 +26,36 @@ pub struct State {
     pub context: u16,
 }
 
-// A term that is held to a type fits, or is refused with a number and a place.
-pub enum Checked {
-    Fits(State),
-    Refused(u8, Term),
+// A term is asked for its type, or held to one.
+pub enum Want {
+    Synth,
+    Check(Sort),
 }
 
-// A term that is asked for its type has one, or is refused.
-pub enum Synthesized {
+// What a run answers: a type, which in a check is the wanted one, or a refusal.
+pub enum Ran {
     Has(Sort, State),
-    Refused(u8, Term),
+    Refused(Refusal),
+}
+
+// The type that a rule answers: the wanted one, else what was found.
+pub fn answered(w: Want, t: Sort) -> Sort
+    ensures { λ r. ⌜ r ≡ «answer-of» w t ⌝ }
+{
+    match w {
+        Want::Synth => t,
+        Want::Check(e) => e,
+    }
+}
+
+// Of two refusal numbers, as 12 / 22, the first is for checking and the second for synthesis.
+pub fn of(w: Want, a: u8, b: u8) -> u8
+    ensures { λ r. ⌜ r ≡ «number-of» w a b ⌝ }
+{
+    match w {
+        Want::Synth => b,
+        Want::Check(_) => a,
+    }
 }
 
 // How many propositions the room holds: the table's, and those made.
@@ -51,6 +73,20 @@ pub fn left_of(st: State) -> u16
     ensures { λ r. ⌜ r + st .made ≡ limit ⌝ }
 {
     Proposition::MADE - st.made
+}
+
+// The counts once there are `end` propositions where there were `count`.
+pub fn grown(st: State, count: u16, end: u16) -> State
+    requires { ⌜ (count ≤ end) × (st .made + end ≤ largest) ⌝ }
+    ensures { λ r. ⌜ (r .made + count ≡ st .made + end) × (r .records ≡ st .records) × (r .goals ≡ st .goals) × (r .serials ≡ st .serials) × (r .context ≡ st .context) ⌝ }
+{
+    State {
+        records: st.records,
+        goals: st.goals,
+        serials: st.serials,
+        made: st.made + (end - count),
+        context: st.context,
+    }
 }
 
 // Premises stand behind their parent's record, which is written last.

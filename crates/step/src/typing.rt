@@ -8,14 +8,19 @@ ghost use Rattle.table.specs.Passing.{Counted};
 ghost use Rattle.step.specs.Rooms.{countOf, Loaded};
 ghost use Rattle.step.specs.Steps.{annotationOf, AnnotationIn, ResolvingAs, AgreedAs};
 use super::state::State;
+use super::state::Want;
 use super::state::count_of;
+use super::state::grown;
 use super::state::left_of;
+use super::state::of;
 use arena::resolve::Resolved;
 use arena::resolve::resolve;
 use layout::record::TermRecord;
 use numbers::Name;
 use numbers::Proposition;
 use numbers::Sort;
+use numbers::Term;
+use numbers::refusal::Refusal;
 use prop::compare::compare_types;
 use prop::compare::is_alpha;
 
@@ -26,12 +31,12 @@ pub enum Annotation {
 
 pub enum Resolving {
     To(Sort, State),
-    Refused(u8),
+    Refused(Refusal),
 }
 
 pub enum Agreed {
     On(State),
-    Refused(u8),
+    Refused(Refusal),
 }
 
 pub fn annotation_of(r: TermRecord) -> Annotation
@@ -45,66 +50,59 @@ pub fn annotation_of(r: TermRecord) -> Annotation
     }
 }
 
-// A type with its free names resolved. An unknown name is refused before 30 is.
+// The annotation t of term k with its free names resolved. An unknown name is refused before 30 is.
 pub fn resolve_type(
     file: &[u8],
     props: &mut [u8],
     work: &[u8],
+    k: Term,
+    w: Want,
     t: Sort,
-    unknown: u8,
     st: State,
 ) -> Resolving
     requires { ⌜ Counted (now file) ⌝ }
     requires { ⌜ Loaded (now file) (now props) (countOf (now file) st) ⌝ }
     requires { ⌜ TypeIn (countOf (now file) st) t ⌝ }
     requires { ⌜ (st .made ≤ limit) × (8 * (st .context) ≤ length (now work)) ⌝ }
-    ensures { λ r. ⌜ ResolvingAs (now (file .entry)) (now (props .entry)) (now (work .entry)) (now (props .exit)) t unknown st r ⌝ }
+    ensures { λ r. ⌜ ResolvingAs (now (file .entry)) (now (props .entry)) (now (work .entry)) (now (props .exit)) (k .0) w t st r ⌝ }
 {
     let count = count_of(file, st);
     let left = left_of(st);
     match resolve(props, count, left, work, st.context as usize, t) {
-        Resolved::Unknown => Resolving::Refused(unknown),
-        Resolved::Full => Resolving::Refused(30),
-        Resolved::To(u, end) => Resolving::To(
-            u,
-            State {
-                records: st.records,
-                goals: st.goals,
-                serials: st.serials,
-                made: st.made + (end - count),
-                context: st.context,
-            },
-        ),
+        Resolved::Unknown => Resolving::Refused(Refusal::at(of(w, 10, 20), k)),
+        Resolved::Full => Resolving::Refused(Refusal::at(30, k)),
+        Resolved::To(u, end) => Resolving::To(u, grown(st, count, end)),
     }
 }
 
-// A function's annotation, if there is one: 10 or 30 in resolving it, 14 where it is not the expected type up to alpha.
+// The annotation of the checked function k, if there is one: 10 or 30 in resolving it, 14 where it is not the wanted type up to alpha.
 pub fn agree(
     file: &[u8],
     props: &mut [u8],
     work: &[u8],
+    k: Term,
     a: Annotation,
-    expected: Sort,
+    wanted: Sort,
     st: State,
 ) -> Agreed
     requires { ⌜ Counted (now file) ⌝ }
     requires { ⌜ Loaded (now file) (now props) (countOf (now file) st) ⌝ }
-    requires { ⌜ AnnotationIn (countOf (now file) st) a × TypeIn (countOf (now file) st) expected ⌝ }
+    requires { ⌜ AnnotationIn (countOf (now file) st) a × TypeIn (countOf (now file) st) wanted ⌝ }
     requires { ⌜ (st .made ≤ limit) × (8 * (st .context) ≤ length (now work)) ⌝ }
-    ensures { λ r. ⌜ AgreedAs (now (file .entry)) (now (props .entry)) (now (work .entry)) (now (props .exit)) a expected st r ⌝ }
+    ensures { λ r. ⌜ AgreedAs (now (file .entry)) (now (props .entry)) (now (work .entry)) (now (props .exit)) (k .0) a wanted st r ⌝ }
 {
     let Annotation::Of(t) = a else {
         return Agreed::On(st);
     };
-    match resolve_type(file, props, work, t, 10, st) {
-        Resolving::Refused(n) => Agreed::Refused(n),
+    match resolve_type(file, props, work, k, Want::Check(wanted), t, st) {
+        Resolving::Refused(r) => Agreed::Refused(r),
         Resolving::To(u, s) => {
             let count = count_of(file, s);
-            let c = compare_types(props, count, u, expected);
+            let c = compare_types(props, count, u, wanted);
             if is_alpha(c) {
                 Agreed::On(s)
             } else {
-                Agreed::Refused(14)
+                Agreed::Refused(Refusal::at(14, k))
             }
         }
     }

@@ -1,5 +1,5 @@
 use Rattle.entry.proofs.Runs.{header-there}
-use mathlib.Core.Path.{_≡_, refl, sym, _∙_}
+use mathlib.Core.Path.{_∙_}
 use Rattle.step.specs.Rooms.{rooms}
 use Rattle.entry.proofs.Marks.{table-refused, table-good, table-marked}
 use borrow.Author.Needs.{needs}

@@ -17,12 +17,12 @@ enum-known-answer-2 c = search needs
 count-of-requires : tie.Need-count-of-requires
 count-of-requires c κs =
     let s = c .before .before .before .before .before .before .before .before in
-    (s .pre .0, count-fits (s .args .file .now) (root-run (s .args .file .now)) (rooms (s .args .tree .now) (s .args .goals .now) (s .args .props .now) (s .args .work .now)) _ _ (c .before .answer2 .given .1) (s .pre .1 .0) (s .pre .1 .1))
+    (s .pre .0, count-fits (s .args .file .now) (root-run (s .args .file .now)) (rooms (s .args .tree .now) (s .args .goals .now) (s .args .props .now) (s .args .work .now)) _ _ _ (c .before .answer2 .given .1) (s .pre .1 .0) (s .pre .1 .1))
 
 clear-rest-requires : tie.Need-clear-rest-requires
 clear-rest-requires c κs =
     let s = c .before .before .before .before .before .before .before .before .before .before .before .before .before in
-    rest-fits (s .args .file .now) (root-run (s .args .file .now)) (rooms (s .args .tree .now) (s .args .goals .now) (s .args .props .now) (s .args .work .now)) _ _ _ (c .before .before .before .before .before .before .answer2 .given .1) (c .before .before .before .before .count-of .ensures) (s .pre .1 .0) (s .pre .1 .1)
+    rest-fits (s .args .file .now) (root-run (s .args .file .now)) (rooms (s .args .tree .now) (s .args .goals .now) (s .args .props .now) (s .args .work .now)) _ _ _ _ (c .before .before .before .before .before .before .answer2 .given .1) (c .before .before .before .before .count-of .ensures) (s .pre .1 .0) (s .pre .1 .1)
 
 same-length : tie.Need-same-length
 same-length c = search needs
@@ -39,7 +39,7 @@ same-length-4 c = search needs
 returns : tie.Need-returns
 returns c =
     let s = c .before .before .before .before .before .before .before .before .before .before .before .before .before .before .before .before .before .before .before .before .before in
-    finish-refused (s .args .file .now) (root-run (s .args .file .now)) (rooms (s .args .tree .now) (s .args .goals .now) (s .args .props .now) (s .args .work .now)) _ _ _ _ (c .before .before .before .before .before .before .before .before .before .before .before .before .before .before .answer .given .1) (s .pre .1 .1) (c .before .before .before .before .before .before .before .before .clear-rooms .ensures)
+    finish-refused (s .args .file .now) (root-run (s .args .file .now)) (rooms (s .args .tree .now) (s .args .goals .now) (s .args .props .now) (s .args .work .now)) _ _ _ (c .before .before .before .before .before .before .before .before .before .before .before .before .before .before .answer .given .1) (s .pre .1 .1) (c .before .before .before .before .before .before .before .before .clear-rooms .ensures)
 
 same-length-5 : tie.Need-same-length-5
 same-length-5 c = search needs
@@ -56,7 +56,7 @@ same-length-8 c = search needs
 returns-2 : tie.Need-returns-2
 returns-2 c =
     let s = c .before .before .before .before .before .before .before .before .before .before .before .before .before .before .before .before .before .before .before .before .before .before in
-    finish-accepted (s .args .file .now) (root-run (s .args .file .now)) (rooms (s .args .tree .now) (s .args .goals .now) (s .args .props .now) (s .args .work .now)) _ _ _ _ (c .before .before .before .before .before .before .before .before .before .before .before .before .before .before .before .answer2 .given .1) (c .before .before .before .before .before .before .before .before .before .before .before .before .before .count-of .ensures) (s .pre .1 .1) (c .before .before .before .before .before .before .before .before .clear-rest .ensures)
+    finish-accepted (s .args .file .now) (root-run (s .args .file .now)) (rooms (s .args .tree .now) (s .args .goals .now) (s .args .props .now) (s .args .work .now)) _ _ _ _ _ (c .before .before .before .before .before .before .before .before .before .before .before .before .before .before .before .answer2 .given .1) (c .before .before .before .before .before .before .before .before .before .before .before .before .before .count-of .ensures) (s .pre .1 .1) (c .before .before .before .before .before .before .before .before .clear-rest .ensures)
 
 pub finish-spec : {M : Type 1} → statement M
 finish-spec =

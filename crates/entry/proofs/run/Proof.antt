@@ -1,4 +1,4 @@
-use mathlib.Core.Path.{_∙_, sym, subst}
+use mathlib.Core.Path.{_∙_}
 use Rattle.step.specs.Rooms.{rooms}
 use native.Mathlib.Omega.{arith}
 use Rattle.entry.proofs.Runs.{loadable, header-there, few-props, goal-there, ready, ran}

@@ -1,6 +1,4 @@
-use mathlib.Core.Path.{_≡_, ap, sym, _∙_}
-use mathlib.Core.List.{List}
-use Prim.Native.Nat.{ℕ}
+use mathlib.Core.Path.{ap, _∙_}
 use native.Mathlib.Omega.{arith}
 use Rattle.step.specs.Rooms.{rooms}
 use Rattle.filling.proofs.Reaching.{goal-same, loadable, term-inside, old-inside, waiting, waiting-inside, table-back, wants, ready-waiting, few-pictured, reached}

@@ -27,19 +27,19 @@ slice-aggregate-count-of c = let s = c .before .before .before .before .before .
 count-of-requires : tie.Need-count-of-requires
 count-of-requires c κs =
     let s = c .before .before .before .before .before .before .before .before .before in
-    let w = within (take (s .args .size) (s .args .edited .now)) (s .args .size) (s .args .serials) (rooms (s .args .tree .now) (s .args .goals .now) (s .args .props .now) (s .args .work .now)) (s .args .answer) (c .before .before .answer2 .given .0 .0) (c .before .before .answer2 .given .1) (s .pre .1 .0) in
+    let w = within (take (s .args .size) (s .args .edited .now)) (s .args .size) (s .args .serials) (rooms (s .args .tree .now) (s .args .goals .now) (s .args .props .now) (s .args .work .now)) (s .args .answer) _ (c .before .before .answer2 .given .0 .1 .0) (c .before .before .answer2 .given .1) (s .pre .1 .0) in
     (omega (arith, length-take-le (s .args .size) (s .args .edited .now) (s .pre .1 .1), w .0), w .1)
 
 clear-rest-requires : tie.Need-clear-rest-requires
 clear-rest-requires c κs =
     let s = c .before .before .before .before .before .before .before .before .before .before .before .before .before .before in
-    rest-room (take (s .args .size) (s .args .edited .now)) (s .args .size) (s .args .serials) (rooms (s .args .tree .now) (s .args .goals .now) (s .args .props .now) (s .args .work .now)) (s .args .answer) (c .before .before .before .before .before .before .before .answer2 .given .0 .0) (c .before .before .before .before .before .before .before .answer2 .given .1) (s .pre .1 .0) _ (c .before .before .before .before .count-of .ensures) (s .pre .0 .rooms)
+    rest-room (take (s .args .size) (s .args .edited .now)) (s .args .size) (s .args .serials) (rooms (s .args .tree .now) (s .args .goals .now) (s .args .props .now) (s .args .work .now)) (s .args .answer) _ (c .before .before .before .before .before .before .before .answer2 .given .0 .1 .0) (c .before .before .before .before .before .before .before .answer2 .given .1) (s .pre .1 .0) _ (c .before .before .before .before .count-of .ensures) (s .pre .0 .rooms)
 
 trim-requires : tie.Need-trim-requires
 trim-requires c κs = search needs
 
-sub-t39 : tie.Need-sub-t39
-sub-t39 c = let s = c .before .before .before .before .before .before .before .before .before .before .before .before .before .before .before .before .before .before .before .before .before .before .before .before .before .before .before .before in within (take (s .args .size) (s .args .edited .now)) (s .args .size) (s .args .serials) (rooms (s .args .tree .now) (s .args .goals .now) (s .args .props .now) (s .args .work .now)) (s .args .answer) (c .before .before .before .before .before .before .before .before .before .before .before .before .before .before .before .before .before .before .before .before .before .answer2 .given .0 .0) (c .before .before .before .before .before .before .before .before .before .before .before .before .before .before .before .before .before .before .before .before .before .answer2 .given .1) (s .pre .1 .0) .4
+sub-t37 : tie.Need-sub-t37
+sub-t37 c = let s = c .before .before .before .before .before .before .before .before .before .before .before .before .before .before .before .before .before .before .before .before .before .before .before .before .before .before .before .before in within (take (s .args .size) (s .args .edited .now)) (s .args .size) (s .args .serials) (rooms (s .args .tree .now) (s .args .goals .now) (s .args .props .now) (s .args .work .now)) (s .args .answer) _ (c .before .before .before .before .before .before .before .before .before .before .before .before .before .before .before .before .before .before .before .before .before .answer2 .given .0 .1 .0) (c .before .before .before .before .before .before .before .before .before .before .before .before .before .before .before .before .before .before .before .before .before .answer2 .given .1) (s .pre .1 .0) .4
 
 same-length : tie.Need-same-length
 same-length c = search needs
@@ -59,7 +59,7 @@ same-length-5 c = search needs
 returns : tie.Need-returns
 returns c =
     let s = c .before .before .before .before .before .before .before .before .before .before .before .before .before .before .before .before .before .before .before .before .before .before .before .before in
-    λ g o b ran. run-refused (lent (s .args .tree .now) (s .args .goals .now) (s .args .props .now) (s .args .work .now) (s .args .edited .now)) _ (s .args .size) (s .args .serials) g o b (s .args .answer) ran _ _ _ (c .before .before .before .before .before .before .before .before .before .before .before .before .before .before .before .before .before .answer .given .1) (c .before .before .before .before .before .before .before .before .before .before .refuse .ensures)
+    λ g o b ran. run-refused (lent (s .args .tree .now) (s .args .goals .now) (s .args .props .now) (s .args .work .now) (s .args .edited .now)) _ (s .args .size) (s .args .serials) g o b (s .args .answer) ran _ _ (c .before .before .before .before .before .before .before .before .before .before .before .before .before .before .before .before .before .answer .given .1) (c .before .before .before .before .before .before .before .before .before .before .refuse .ensures)
 
 same-length-6 : tie.Need-same-length-6
 same-length-6 c = search needs
@@ -79,7 +79,7 @@ same-length-10 c = search needs
 returns-2 : tie.Need-returns-2
 returns-2 c =
     let s = c .before .before .before .before .before .before .before .before .before .before .before .before .before .before .before .before .before .before .before .before .before .before .before .before .before .before .before .before in
-    λ g o b ran. run-accepted (lent (s .args .tree .now) (s .args .goals .now) (s .args .props .now) (s .args .work .now) (s .args .edited .now)) _ (s .args .size) (s .args .serials) g o b (s .args .answer) ran _ (c .before .before .before .before .before .before .before .before .before .before .before .before .before .before .before .before .before .before .before .before .before .answer2 .given .0 .0) _ (c .before .before .before .before .before .before .before .before .before .before .before .before .before .before .before .before .before .before .before .before .before .answer2 .given .1) (s .pre .1 .1)
+    λ g o b ran. run-accepted (lent (s .args .tree .now) (s .args .goals .now) (s .args .props .now) (s .args .work .now) (s .args .edited .now)) _ (s .args .size) (s .args .serials) g o b (s .args .answer) ran _ _ (c .before .before .before .before .before .before .before .before .before .before .before .before .before .before .before .before .before .before .before .before .before .answer2 .given .0 .1 .0) _ (c .before .before .before .before .before .before .before .before .before .before .before .before .before .before .before .before .before .before .before .before .before .answer2 .given .1) (s .pre .1 .1)
     (c .before .before .before .before .before .before .before .before .before .before .before .before .before .before .before .before .before .before .count-of .ensures) (c .before .before .before .before .before .before .before .before .before .before .before .before .before .clear-rest .ensures) (c .before .before .before .trim .ensures) refl
 
 pub finish-spec : {M : Type 1} → statement M
@@ -94,7 +94,7 @@ finish-spec =
     count-of-requires
     clear-rest-requires
     trim-requires
-    sub-t39
+    sub-t37
     same-length
     same-length-2
     same-length-3

@@ -1,16 +1,13 @@
 use Rattle.filling.proofs.Running.{few-nodes, hole-ready, hole-meets, hole-fits, run-from}
-use mathlib.Core.Path.{_≡_, ap, sym, subst, subst⁻¹, _∙_}
-use mathlib.Core.List.{List, _++_}
-use Prim.Native.Nat.{ℕ}
+use mathlib.Core.Path.{_≡_, ap, sym, _∙_}
+use mathlib.Core.List.{_++_}
 use native.Mathlib.Omega.{arith}
 use lib.ListN.{length, take, drop}
 use lib.Seq.{length-take-le}
-use Rattle.rules.specs.Tree.{Gap}
 use Rattle.table.proofs.Passing.{good-passed}
-use Rattle.editing.specs.Edited.{Fillable}
 use Rattle.step.specs.Rooms.{rooms}
 use Rattle.filling.specs.Fill.{lent}
-use Rattle.filling.proofs.Parts.{room-long, part-fits, room-same}
+use Rattle.filling.proofs.Parts.{room-same}
 use Rattle.entry.specs.Ran.{Exact}
 use Rattle.filling.specs.Steps.{ExactAll}
 use borrow.Author.Needs.{needs}

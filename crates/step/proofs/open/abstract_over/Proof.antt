@@ -1,4 +1,4 @@
-use Rattle.step.proofs.Leaves.{prop-in}
+use Rattle.prop.proofs.Heads.{prop-in}
 use Rattle.step.proofs.Moves.{loaded-arena, loaded-type, loaded-left}
 use Rattle.step.proofs.Openings.{impl-more, impl-few, impl-full, impl-made, forall-more, forall-few, forall-full, forall-made}
 use borrow.Author.Needs.{needs}
@@ -20,6 +20,9 @@ make-impl-requires c κs = (search loaded-arena, ((search (prop-in, loaded-type)
 enum-told : tie.Need-enum-told
 enum-told c = search needs
 
+at-requires : tie.Need-at-requires
+at-requires c κs = search needs
+
 enum-known-m : tie.Need-enum-known-m
 enum-known-m c = search needs
 
@@ -34,6 +37,9 @@ make-forall-requires c κs = (search loaded-arena, (search needs, (search loaded
 
 enum-told-2 : tie.Need-enum-told-2
 enum-told-2 c = search needs
+
+at-requires-2 : tie.Need-at-requires-2
+at-requires-2 c κs = search needs
 
 enum-known-m-2 : tie.Need-enum-known-m-2
 enum-known-m-2 c = search needs
@@ -66,26 +72,4 @@ returns-4 : tie.Need-returns-4
 returns-4 c = search forall-made
 
 pub abstract-over-spec : {M : Type 1} → statement M
-abstract-over-spec =
-    tie.close
-    (tie.spec
-    count-of-requires
-    left-of-requires
-    enum-known-t
-    make-impl-requires
-    enum-told
-    enum-known-m
-    grown-requires
-    enum-known-t-2
-    make-forall-requires
-    enum-told-2
-    enum-known-m-2
-    grown-requires-2
-    same-length
-    returns
-    same-length-2
-    returns-2
-    same-length-3
-    returns-3
-    same-length-4
-    returns-4)
+abstract-over-spec = tie.close (tie.spec count-of-requires left-of-requires enum-known-t make-impl-requires enum-told at-requires enum-known-m grown-requires enum-known-t-2 make-forall-requires enum-told-2 at-requires-2 enum-known-m-2 grown-requires-2 same-length returns same-length-2 returns-2 same-length-3 returns-3 same-length-4 returns-4)

@@ -1,5 +1,5 @@
 use Rattle.step.proofs.Moves.{loaded-arena, loaded-type}
-use Rattle.step.proofs.Leaves.{prop-in}
+use Rattle.prop.proofs.Heads.{prop-in}
 use Rattle.step.proofs.Openings.{close-data, close-holds, close-shut}
 use borrow.Author.Needs.{needs}
 use Rattle.step.proofs.open.close_let.Statement.{statement}
@@ -11,6 +11,12 @@ enum-known-t c = search needs
 enum-told : tie.Need-enum-told
 enum-told c = search needs
 
+of-requires : tie.Need-of-requires
+of-requires c κs = search needs
+
+at-requires : tie.Need-at-requires
+at-requires c κs = search needs
+
 returns : tie.Need-returns
 returns c = search close-data
 
@@ -20,6 +26,12 @@ count-of-requires c κs = search needs
 holds-requires : tie.Need-holds-requires
 holds-requires c κs = (search loaded-arena, search (prop-in, loaded-type))
 
+of-requires-2 : tie.Need-of-requires-2
+of-requires-2 c κs = search needs
+
+at-requires-2 : tie.Need-at-requires-2
+at-requires-2 c κs = search needs
+
 returns-2 : tie.Need-returns-2
 returns-2 c = search close-holds
 
@@ -27,6 +39,4 @@ returns-3 : tie.Need-returns-3
 returns-3 c = search close-shut
 
 pub close-let-spec : {M : Type 1} → statement M
-close-let-spec =
-    tie.close
-    (tie.spec enum-known-t enum-told returns count-of-requires holds-requires returns-2 returns-3)
+close-let-spec = tie.close (tie.spec enum-known-t enum-told of-requires at-requires returns count-of-requires holds-requires of-requires-2 at-requires-2 returns-2 returns-3)

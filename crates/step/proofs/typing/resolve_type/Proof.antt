@@ -19,17 +19,23 @@ resolve-requires c κs = (search loaded-arena, (search loaded-type, (search load
 enum-told : tie.Need-enum-told
 enum-told c = search needs
 
+of-requires : tie.Need-of-requires
+of-requires c κs = search needs
+
+at-requires : tie.Need-at-requires
+at-requires c κs = search needs
+
 enum-told-2 : tie.Need-enum-told-2
 enum-told-2 c = search needs
+
+at-requires-2 : tie.Need-at-requires-2
+at-requires-2 c κs = search needs
 
 enum-known-u : tie.Need-enum-known-u
 enum-known-u c = search needs
 
-sub-t16 : tie.Need-sub-t16
-sub-t16 c = search resolve-more
-
-add-t17 : tie.Need-add-t17
-add-t17 c = search needs
+grown-requires : tie.Need-grown-requires
+grown-requires c κs = let a = c .before .before .before .before .before .before .before .before .before .before .before .before .before .args in resolve-more (a .file .now) (a .props .now) (a .work .now) (c .before .before .before .before .before .resolve .last .0) (a .k .0) (a .w) (a .t) _ _ (a .st) _ (c .before .before .before .before .before .before .before .before .before .count-of .ensures) (c .before .before .before .before .before .before .before .before .left-of .ensures) (c .before .before .before .before .before .resolve .ensures) _ _ (c .before .u .given .1) (c .before .before .before .before .before .before .before .before .before .before .before .before .before .pre .0)
 
 same-length : tie.Need-same-length
 same-length c = search needs
@@ -50,21 +56,4 @@ returns-3 : tie.Need-returns-3
 returns-3 c = search resolve-to
 
 pub resolve-type-spec : {M : Type 1} → statement M
-resolve-type-spec =
-    tie.close
-    (tie.spec
-    count-of-requires
-    left-of-requires
-    cast-resolve
-    resolve-requires
-    enum-told
-    enum-told-2
-    enum-known-u
-    sub-t16
-    add-t17
-    same-length
-    returns
-    same-length-2
-    returns-2
-    same-length-3
-    returns-3)
+resolve-type-spec = tie.close (tie.spec count-of-requires left-of-requires cast-resolve resolve-requires enum-told of-requires at-requires enum-told-2 at-requires-2 enum-known-u grown-requires same-length returns same-length-2 returns-2 same-length-3 returns-3)

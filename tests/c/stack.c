@@ -10,7 +10,7 @@
 
 #define PAINT 0x5a
 #define STACK (1 << 20)
-#define DEEP (1 << 16)
+#define DEEP (1 << 14)
 
 static uint8_t stack[STACK] __attribute__((aligned(4096)));
 static uint8_t table[65536], filling[65536];

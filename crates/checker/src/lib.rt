@@ -1,14 +1,15 @@
-// Floor 7: check and synthesize. They call each other through the rules, which are values: `go_on` does with a rule what `obey` of the rules' definition
-// does with a program. The cycle has these four functions, however many rules there are.
+// Floor 7: check and synthesize, which call each other through the rules. A rule is a value, and `perform` does with it what `obey` of the rules'
+// definition does with a program. The cycle has these four functions, however many rules there are.
 ghost use Rattle.prop.specs.Room.{TypeIn};
 ghost use Rattle.step.specs.declared.state.Want.«the-variants».{Check, Synth};
+ghost use Rattle.layout.specs.File.{termRecord};
 ghost use Rattle.step.specs.Rooms.{countOf, rooms};
 ghost use Rattle.step.specs.Modes.{WantIn};
 ghost use Rattle.step.specs.Contract.{Ready, RanAs};
-ghost use Rattle.checker.specs.Turning.{Going, GoesOn};
+ghost use Rattle.rule.specs.Going.{Begins, «begun-as»};
 use numbers::Sort;
 use numbers::Term;
-use rule::check::compares;
+use rule::check::begun_as;
 use rule::check::settle;
 use rule::next::Next;
 use rule::resume::resume;
@@ -16,7 +17,73 @@ use step::state::Ran;
 use step::state::State;
 use step::state::Want;
 use step::state::leave;
-use step::state::term_record;
+
+// Term k up to its first premise.
+fn begin(
+    file: &[u8],
+    tree: &mut [u8],
+    goals: &mut [u8],
+    props: &mut [u8],
+    work: &mut [u8],
+    k: Term,
+    w: Want,
+    st: State,
+) -> Next
+    requires { ⌜ Ready (now file) (rooms (now tree) (now goals) (now props) (now work)) (k .0) st ⌝ }
+    requires { ⌜ WantIn (countOf (now file) st) w ⌝ }
+    ensures { λ n. ⌜ Begins (now (file .entry)) (rooms (now (tree .entry)) (now (goals .entry)) (now (props .entry)) (now (work .entry)))
+        (rooms (now (tree .exit)) (now (goals .exit)) (now (props .exit)) (now (work .exit)))
+        (k .0) («begun-as» (termRecord (now (file .entry)) (k .0) .kind) w) st n ⌝ }
+{
+    match begun_as(file, k, w) {
+        Want::Synth => rule::synthesize::begin(file, tree, props, work, k, st),
+        Want::Check(t) => rule::check::begin(file, tree, goals, props, work, k, t, st),
+    }
+}
+
+// The rule of term k, from premise to premise.
+fn perform(
+    file: &[u8],
+    tree: &mut [u8],
+    goals: &mut [u8],
+    props: &mut [u8],
+    work: &mut [u8],
+    k: Term,
+    w: Want,
+    st: State,
+) -> Ran
+    requires { ⌜ Ready (now file) (rooms (now tree) (now goals) (now props) (now work)) (k .0) st ⌝ }
+    requires { ⌜ WantIn (countOf (now file) st) w ⌝ }
+    ensures { λ r. ⌜ RanAs (now (file .entry)) (rooms (now (tree .entry)) (now (goals .entry)) (now (props .entry)) (now (work .entry)))
+        (rooms (now (tree .exit)) (now (goals .exit)) (now (props .exit)) (now (work .exit))) (k .0) w st r ⌝ }
+{
+    let mut next = begin(file, tree, goals, props, work, k, w, st);
+    loop {
+        match next {
+            Next::Done(t, s) => {
+                return settle(file, tree, props, k, w, st, t, s);
+            }
+            Next::Refused(e) => {
+                return Ran::Refused(e);
+            }
+            Next::Instead(x, t, s) => {
+                return check(file, tree, goals, props, work, x, t, s);
+            }
+            Next::Ask(f, rest, x, v, s) => {
+                match run(file, tree, goals, props, work, x, v, s) {
+                    Ran::Refused(e) => {
+                        return Ran::Refused(e);
+                    }
+                    Ran::Has(t, s1) => {
+                        let start = f.start;
+                        let back = leave(s1, start.context);
+                        next = resume(file, tree, props, work, f, rest, t, back);
+                    }
+                }
+            }
+        }
+    }
+}
 
 // Term k, asked for its type or held to one.
 fn run(
@@ -31,7 +98,8 @@ fn run(
 ) -> Ran
     requires { ⌜ Ready (now file) (rooms (now tree) (now goals) (now props) (now work)) (k .0) st ⌝ }
     requires { ⌜ WantIn (countOf (now file) st) w ⌝ }
-    ensures { λ r. ⌜ RanAs (now (file .entry)) (rooms (now (tree .entry)) (now (goals .entry)) (now (props .entry)) (now (work .entry))) (rooms (now (tree .exit)) (now (goals .exit)) (now (props .exit)) (now (work .exit))) (k .0) w st r ⌝ }
+    ensures { λ r. ⌜ RanAs (now (file .entry)) (rooms (now (tree .entry)) (now (goals .entry)) (now (props .entry)) (now (work .entry)))
+        (rooms (now (tree .exit)) (now (goals .exit)) (now (props .exit)) (now (work .exit))) (k .0) w st r ⌝ }
 {
     match w {
         Want::Synth => synthesize(file, tree, goals, props, work, k, st),
@@ -39,7 +107,7 @@ fn run(
     }
 }
 
-// Whether term k has the type that is wanted of it. An Ident, a projection and an Application are synthesized, and compared.
+// Whether term k has the type that is wanted of it.
 pub fn check(
     file: &[u8],
     tree: &mut [u8],
@@ -52,16 +120,10 @@ pub fn check(
 ) -> Ran
     requires { ⌜ Ready (now file) (rooms (now tree) (now goals) (now props) (now work)) (k .0) st ⌝ }
     requires { ⌜ TypeIn (countOf (now file) st) wanted ⌝ }
-    ensures { λ r. ⌜ RanAs (now (file .entry)) (rooms (now (tree .entry)) (now (goals .entry)) (now (props .entry)) (now (work .entry))) (rooms (now (tree .exit)) (now (goals .exit)) (now (props .exit)) (now (work .exit))) (k .0) (Check wanted) st r ⌝ }
+    ensures { λ r. ⌜ RanAs (now (file .entry)) (rooms (now (tree .entry)) (now (goals .entry)) (now (props .entry)) (now (work .entry)))
+        (rooms (now (tree .exit)) (now (goals .exit)) (now (props .exit)) (now (work .exit))) (k .0) (Check wanted) st r ⌝ }
 {
-    let r = term_record(file, k);
-    if compares(r.kind) {
-        let found = synthesize(file, tree, goals, props, work, k, st);
-        settle(file, tree, props, k, wanted, st, found)
-    } else {
-        let n = rule::check::begin(file, tree, goals, props, work, k, wanted, st);
-        go_on(file, tree, goals, props, work, n)
-    }
+    perform(file, tree, goals, props, work, k, Want::Check(wanted), st)
 }
 
 // The type of term k.
@@ -75,45 +137,8 @@ fn synthesize(
     st: State,
 ) -> Ran
     requires { ⌜ Ready (now file) (rooms (now tree) (now goals) (now props) (now work)) (k .0) st ⌝ }
-    ensures { λ r. ⌜ RanAs (now (file .entry)) (rooms (now (tree .entry)) (now (goals .entry)) (now (props .entry)) (now (work .entry))) (rooms (now (tree .exit)) (now (goals .exit)) (now (props .exit)) (now (work .exit))) (k .0) Synth st r ⌝ }
+    ensures { λ r. ⌜ RanAs (now (file .entry)) (rooms (now (tree .entry)) (now (goals .entry)) (now (props .entry)) (now (work .entry)))
+        (rooms (now (tree .exit)) (now (goals .exit)) (now (props .exit)) (now (work .exit))) (k .0) Synth st r ⌝ }
 {
-    let n = rule::synthesize::begin(file, tree, props, work, k, st);
-    go_on(file, tree, goals, props, work, n)
-}
-
-// A rule to its end: the premise that it asks for is run, and the rule goes on from its answer.
-fn go_on(
-    file: &[u8],
-    tree: &mut [u8],
-    goals: &mut [u8],
-    props: &mut [u8],
-    work: &mut [u8],
-    n: Next,
-) -> Ran
-    requires { ⌜ Going (now file) (rooms (now tree) (now goals) (now props) (now work)) n ⌝ }
-    ensures { λ r. ⌜ GoesOn (now (file .entry)) (rooms (now (tree .entry)) (now (goals .entry)) (now (props .entry)) (now (work .entry))) (rooms (now (tree .exit)) (now (goals .exit)) (now (props .exit)) (now (work .exit))) n r ⌝ }
-{
-    match n {
-        Next::Done(t, s) => Ran::Has(t, s),
-        Next::Refused(e) => Ran::Refused(e),
-        Next::Instead(x, w, s) => run(file, tree, goals, props, work, x, w, s),
-        Next::Ask(f, rest, x, w, s) => {
-            let one = run(file, tree, goals, props, work, x, w, s);
-            let Ran::Has(t, s1) = one else {
-                return one;
-            };
-            let start = f.start;
-            let next = resume(
-                file,
-                tree,
-                props,
-                work,
-                f,
-                rest,
-                t,
-                leave(s1, start.context),
-            );
-            go_on(file, tree, goals, props, work, next)
-        }
-    }
+    perform(file, tree, goals, props, work, k, Want::Synth, st)
 }

@@ -11,6 +11,7 @@ use lib.Dec.{eqb}
 use borrow.Author.Tests.{not-true, not-false}
 use Rattle.numbers.specs.declared.record.Record.{Record}
 use Rattle.numbers.specs.Limits.{most-propositions, most-terms}
+use Rattle.numbers.specs.Refusals.{refusal-at}
 use Rattle.layout.specs.File.{props, terms, expected, propRecord, termRecord}
 use Rattle.layout.specs.Form.{prop-form, term-form}
 use Rattle.rules.specs.Prop.{prop, closed}
@@ -151,7 +152,7 @@ module _ {old f : List ℕ} {q : ℕ} (h : Fillable old f q) where
         ap (λ (n : ℕ). closed (propAt e n)) (expected-joined E) ∙ ap closed (whole-prop E (expected old) (expected-in (o .linked))) ∙ good-closed old (h .old-good)
 
     -- so tests 3 and 6 settle the rest
-    edited-uncounted : counts e ≡ false → Refused 3 0 ≡ tests Check e
+    edited-uncounted : counts e ≡ false → Refused (refusal-at 3 0) ≡ tests Check e
     unfolding tests from-counts unless
     edited-uncounted c = rw (header-joined E (o .marked), c)
 
@@ -166,7 +167,7 @@ module _ {old f : List ℕ} {q : ℕ} (h : Fillable old f q) where
           none-badly-linked e edited-in-order,
         )
 
-    edited-large : (i : ℕ) → oversized e ≡ At i → Refused 6 i ≡ from-sizes Check e
+    edited-large : (i : ℕ) → oversized e ≡ At i → Refused (refusal-at 6 i) ≡ from-sizes Check e
     unfolding from-sizes accused
     edited-large i big = rw big
 
@@ -182,7 +183,7 @@ module _ {old f : List ℕ} {q : ℕ} (h : Fillable old f q) where
     unfolding edited-tests edited-from-sizes unless accused
     edited-verdict = at (counts e) refl (oversized e) refl
       where
-        at : (b : Bool) → counts e ≡ b → (g : Guilty) → oversized e ≡ g → cond b (accused 6 g Passes) (Refused 3 0) ≡ tests Check e
+        at : (b : Bool) → counts e ≡ b → (g : Guilty) → oversized e ≡ g → unless b 3 (accused 6 g Passes) ≡ tests Check e
         at true c Nobody small = sym (edited-passes c small)
         at true c (At i) big = edited-large i big ∙ sym (edited-counted c)
         at false c g small = edited-uncounted c

@@ -14,7 +14,7 @@ use Rattle.layout.specs.File.{props, terms, file-size, propRecord, termRecord, 
 use Rattle.layout.specs.Form.{prop-shape, term-shape}
 use Rattle.table.specs.declared.Purpose.the-variants.{Check, Filling}
 use Rattle.table.specs.declared.Verdict.{Verdict}
-use Rattle.table.specs.declared.Verdict.the-variants.{Passes, Refused}
+use Rattle.table.specs.declared.Verdict.the-variants.{Passes}
 use Rattle.table.specs.Tests.{counts, oversized, unless, accused}
 use Rattle.table.specs.Passing.{Good}
 
@@ -118,4 +118,4 @@ unfoldable pub edited-from-sizes : List ℕ → Verdict
 edited-from-sizes e = accused 6 (oversized e) Passes
 
 unfoldable pub edited-tests : List ℕ → Verdict
-edited-tests e = unless (counts e) (Refused 3 0) (edited-from-sizes e)
+edited-tests e = unless (counts e) 3 (edited-from-sizes e)

@@ -23,6 +23,7 @@ use numbers::Term;
 use numbers::record::Record;
 use numbers::record::put;
 use numbers::record::record_at;
+use numbers::refusal::Refusal;
 use table::Guilty;
 use table::Verdict;
 use table::opening::well_counted;
@@ -153,7 +154,7 @@ pub fn test_edited(table: &[u8], work: &mut [u8]) -> Verdict
     ensures { λ r. ⌜ r ≡ «edited-tests» (now (table .entry)) ⌝ }
 {
     if !well_counted(table) {
-        return Verdict::Refused(3, 0);
+        return Verdict::Refused(Refusal::new(3, 0));
     }
     from_sizes(table, work)
 }
@@ -166,7 +167,7 @@ fn from_sizes(table: &[u8], work: &mut [u8]) -> Verdict
     ensures { λ r. ⌜ r ≡ «edited-from-sizes» (now (table .entry)) ⌝ }
 {
     match oversized(table, work) {
-        Guilty::At(i) => Verdict::Refused(6, i),
+        Guilty::At(i) => Verdict::Refused(Refusal::new(6, i)),
         Guilty::Nobody => Verdict::Passes,
     }
 }

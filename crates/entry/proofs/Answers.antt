@@ -3,6 +3,7 @@ use mathlib.Core.Path.{_≡_, refl, ap, sym, _∙_}
 use mathlib.Core.Bool.{Bool, true, false, _&&_, false≢true}
 use mathlib.Core.List.{List}
 use Prim.Native.Nat.{ℕ}
+use Rattle.numbers.specs.declared.refusal.Refusal.{Refusal}
 use Rattle.rules.specs.State.{St}
 use Rattle.rules.specs.Step.{Out, stop, ok, Answer}
 use Rattle.table.specs.declared.Purpose.the-variants.{Check}
@@ -22,19 +23,15 @@ both-true false b h = absurd (false≢true h)
 -- MARKS
 abbrev pub is-accepted : Mark → Bool
 is-accepted (mark.Accepted c) = true
-is-accepted (mark.Refused n p) = false
+is-accepted (mark.Refused r) = false
 
-abbrev pub number-of : Mark → ℕ
-number-of (mark.Accepted c) = 0
-number-of (mark.Refused n p) = n
-
-abbrev pub place-of : Mark → ℕ
-place-of (mark.Accepted c) = 0
-place-of (mark.Refused n p) = p
+abbrev pub refused-by : Refusal → Mark → Refusal
+refused-by d (mark.Accepted c) = d
+refused-by d (mark.Refused r) = r
 
 abbrev pub counts-of : Counts → Mark → Counts
 counts-of d (mark.Accepted c) = c
-counts-of d (mark.Refused n p) = d
+counts-of d (mark.Refused r) = d
 
 -- RUNS
 abbrev pub is-ok : Out Answer → Bool
@@ -54,5 +51,5 @@ unfolding unless-refused
 table-ok l a st h = at (tests Check l) refl h
   where
     at : (v : Verdict) → tests Check l ≡ v → unless-refused v (root-run l) ≡ ok a st → Good Check l × (root-run l ≡ ok a st)
-    at (verdict.Refused n p) e h = absurd (false≢true (ap is-ok h))
+    at (verdict.Refused r) e h = absurd (false≢true (ap is-ok h))
     at verdict.Passes e h = (e, h)

@@ -11,6 +11,7 @@ use lib.Seq.{length-take-le}
 use Rattle.numbers.specs.declared.Sort.{Sort}
 use Rattle.numbers.specs.declared.refusal.Refusal.{Refusal}
 use Rattle.numbers.specs.Records.{Same}
+use Rattle.numbers.specs.Refusals.{refusal-at}
 use Rattle.numbers.specs.Rooms.{cleared}
 use Rattle.layout.specs.File.{props}
 use Rattle.rules.specs.State.{St}
@@ -71,8 +72,8 @@ rest-fits l o R r T st c e f x h =
     ((omega arith, omega arith), ((omega arith, omega arith), (omega arith, omega arith)))
 
 pub finish-refused : (l : List ℕ) (o : Out Answer) (R R' : Rooms) (r : Outcome) (x : Refusal) → r ≡ ran.Refused x → RanAs l o R r → Emptied R R'
-    → MarkedAs l R R' o (mark.Refused (x .number) (x .place))
-finish-refused l o R R' r x e h z = subst⁻¹ (λ (o : Out Answer). MarkedAs l R R' o (mark.Refused (x .number) (x .place))) (subst (RanAs l o R) e h) (refl, z)
+    → MarkedAs l R R' o (mark.Refused x)
+finish-refused l o R R' r x e h z = subst⁻¹ (λ (o : Out Answer). MarkedAs l R R' o (mark.Refused x)) (subst (RanAs l o R) e h) (refl, z)
 
 -- an acceptance: its counts are the tree's, and what is left of the rooms is kept
 pub kept-rest : (l : List ℕ) (o : Out Answer) (R R' : Rooms) (st : State) (r : Ran l o R st) → Rest (st .records) (st .goals) (countOf l st) R R' → Kept l R R' (r .answer) (stOf st)
@@ -134,11 +135,11 @@ pub verdict-is : (p : Purpose) (l work left : List ℕ) (v : Verdict) → length
 unfolding unless
 verdict-is p l work left v h t = t .verdict ∙ rw (le-leb test-room (length work) (omega arith))
 
-pub table-refused : (l : List ℕ) (R R₁ R' : Rooms) (v : Verdict) (n p : ℕ) → v ≡ verdict.Refused n p → Exact R → Exact R₁ → Tested Check l (R .work) (R₁ .work) v → Emptied R₁ R'
-    → MarkedAs l R R' (table-run l) (mark.Refused n p)
+pub table-refused : (l : List ℕ) (R R₁ R' : Rooms) (v : Verdict) (x : Refusal) → v ≡ verdict.Refused x → Exact R → Exact R₁ → Tested Check l (R .work) (R₁ .work) v → Emptied R₁ R'
+    → MarkedAs l R R' (table-run l) (mark.Refused x)
 unfolding unless-refused
-table-refused l R R₁ R' v n p q e f t z =
-    subst (λ (v : Verdict). MarkedAs l R R' (unless-refused v (root-run l)) (mark.Refused n p)) (sym q ∙ verdict-is Check l (R .work) (R₁ .work) v (e .work) t) (refl, emptied-over e f z)
+table-refused l R R₁ R' v x q e f t z =
+    subst (λ (v : Verdict). MarkedAs l R R' (unless-refused v (root-run l)) (mark.Refused x)) (sym q ∙ verdict-is Check l (R .work) (R₁ .work) v (e .work) t) (refl, emptied-over e f z)
 
 pub table-good : (l work left : List ℕ) (v : Verdict) → v ≡ verdict.Passes → length work ≡ work-bytes → Tested Check l work left v → Good Check l
 table-good l work left v q e t = sym (verdict-is Check l work left v e t) ∙ q
@@ -236,6 +237,6 @@ module _ (l : List ℕ) (m : Mark) (R S : Rooms) (long : long-enough R ≡ true)
   unfolding outcome
   marks-long h = subst⁻¹ (λ (b : Bool). MarkedAs l R (followed S R) (cond b (table-run l) (refused 1 0)) m) long (marked-whole (table-run l) h)
 
-pub marks-short : (l : List ℕ) (R R' : Rooms) → long-enough R ≡ false → Emptied R R' → Marks l R R' (mark.Refused 1 0)
+pub marks-short : (l : List ℕ) (R R' : Rooms) (x : Refusal) → long-enough R ≡ false → Emptied R R' → x ≡ refusal-at 1 0 → Marks l R R' (mark.Refused x)
 unfolding outcome
-marks-short l R R' short z = subst⁻¹ (λ (b : Bool). MarkedAs l R R' (cond b (table-run l) (refused 1 0)) (mark.Refused 1 0)) short (refl, z)
+marks-short l R R' x short z e = subst⁻¹ (λ (b : Bool). MarkedAs l R R' (cond b (table-run l) (refused 1 0)) (mark.Refused x)) short (ap mark.Refused e, z)

@@ -5,6 +5,7 @@ use Prim.Native.Nat.{ℕ, _<_, _≤_}
 use native.Mathlib.Omega.{arith}
 use lib.ListN.{length}
 use Rattle.numbers.specs.declared.Sort.the-variants as sort
+use Rattle.numbers.specs.Limits.{none}
 use Rattle.layout.specs.File.{props, terms, expected}
 use Rattle.rules.specs.Prop.{Ty, prop}
 use Rattle.rules.specs.Context.{Ctx}
@@ -29,7 +30,7 @@ use Rattle.step.specs.declared.state.Ran.the-variants as outcome
 use Rattle.step.specs.declared.state.Want.the-variants as want
 use Rattle.step.specs.Rooms.{Rooms, reads, stOf, countOf, Loaded}
 use Rattle.step.specs.Contract.{Ready, Accepts, RanAs as Meets, runOf}
-use Rattle.step.proofs.Starts.{nothing, ready-root}
+use Rattle.step.proofs.Starts.{beginning, ready-root}
 use Rattle.entry.specs.Mark.{start-of, root-run}
 use Rattle.entry.specs.Ran.{Exact, Ran, RanAs}
 
@@ -46,11 +47,11 @@ module _ (l : List ℕ) (good : Good Check l) where
   pub few-props : props l ≤ most-records
   few-props = omega (arith, good-passed good .counted .propositions)
 
-  pub goal-there : (n : ℕ) → n ≡ expected l → n < countOf l nothing
+  pub goal-there : (n : ℕ) → n ≡ expected l → n < countOf l (beginning none)
   goal-there n e = omega (arith, expected-in (good-passed good .linked))
 
   module _ (old : List ℕ) (R : Rooms) (e : Exact R) (loaded : load.Loaded l old (R .props)) where
-    first-loaded : Loaded l (R .props) (countOf l nothing)
+    first-loaded : Loaded l (R .props) (countOf l (beginning none))
     first-loaded =
         record {
           arena = subst (λ (c : ℕ). Arena (R .props) c) (omega arith) (loaded .arena);
@@ -59,16 +60,16 @@ module _ (l : List ℕ) (good : Good Check l) where
           long = omega (arith, e .props);
         }
 
-    pub ready : Ready l R 0 nothing
-    ready = ready-root R good first-loaded (omega (arith, e .tree)) (omega (arith, e .goals)) (omega (arith, e .work))
+    pub ready : Ready l R 0 (beginning none)
+    ready = ready-root R none good first-loaded (omega (arith, e .tree)) (omega (arith, e .goals)) (omega (arith, e .work))
 
     -- the code's run is the rules'
-    root-is : runOf l R 0 (check (reads l (R .props) (sort.Proposition (record { 0 = expected l })))) nothing ≡ root-run l
+    root-is : runOf l R 0 (check (reads l (R .props) (sort.Proposition (record { 0 = expected l })))) (beginning none) ≡ root-run l
     root-is =
         ap₂ (λ (A : Ty) (Γ : Ctx). run (termAt l 0) (check A) Γ (start-of l)) (ap prop (loaded .means (expected l) (expected-in (good-passed good .linked))))
         (ctx-none (reads l (R .props)) (R .work))
 
-    fits : (R' : Rooms) (st : State) → Accepts l R R' nothing st (root-run l) → Ran l (root-run l) R' st
+    fits : (R' : Rooms) (st : State) → Accepts l R R' (beginning none) st (root-run l) → Ran l (root-run l) R' st
     fits R' st h =
         let p = good-passed good in
         let a = h .answer in
@@ -90,9 +91,9 @@ module _ (l : List ℕ) (good : Good Check l) where
           goals = omega (arith, left .goals);
         }
 
-    as-ran : (R' : Rooms) (r : Outcome) → Meets l R R' 0 (want.Check (sort.Proposition (record { 0 = expected l }))) nothing r → RanAs l (root-run l) R' r
-    as-ran R' (outcome.Has T st) h = fits R' st (subst (λ (o : Out Answer). Accepts l R R' nothing st o) root-is (h .accepted))
+    as-ran : (R' : Rooms) (r : Outcome) → Meets l R R' 0 (want.Check (sort.Proposition (record { 0 = expected l }))) (beginning none) r → RanAs l (root-run l) R' r
+    as-ran R' (outcome.Has T st) h = fits R' st (subst (λ (o : Out Answer). Accepts l R R' (beginning none) st o) root-is (h .accepted))
     as-ran R' (outcome.Refused r) h = sym root-is ∙ h
 
-    pub ran : (R' : Rooms) (r : Outcome) (n : ℕ) → n ≡ expected l → Meets l R R' 0 (want.Check (sort.Proposition (record { 0 = n }))) nothing r → RanAs l (root-run l) R' r
-    ran R' r n e h = as-ran R' r (subst (λ (n : ℕ). Meets l R R' 0 (want.Check (sort.Proposition (record { 0 = n }))) nothing r) e h)
+    pub ran : (R' : Rooms) (r : Outcome) (n : ℕ) → n ≡ expected l → Meets l R R' 0 (want.Check (sort.Proposition (record { 0 = n }))) (beginning none) r → RanAs l (root-run l) R' r
+    ran R' r n e h = as-ran R' r (subst (λ (n : ℕ). Meets l R R' 0 (want.Check (sort.Proposition (record { 0 = n }))) (beginning none) r) e h)

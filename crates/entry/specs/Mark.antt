@@ -23,6 +23,7 @@ use Rattle.prop.specs.Room.{Arena}
 use Rattle.arena.specs.Copy.{most-records}
 use Rattle.arena.specs.Load.{loadedRecord}
 use Rattle.step.specs.Rooms.{Rooms, most-nodes, most-goals}
+use Rattle.step.specs.Contract.{refusal-of, told}
 use Rattle.step.specs.Trees.{TreesAre}
 use Rattle.entry.specs.declared.Counts.{Counts}
 use Rattle.entry.specs.declared.Mark.{Mark}
@@ -58,7 +59,7 @@ root-run l = run (termAt l 0) (check (prop (propAt l (expected l)))) (context-of
 
 -- WHAT DOCUMENT 01 SAYS of these bytes: the rooms first, then the table's tests, then the rules
 unfoldable pub unless-refused : Verdict → Out Answer → Out Answer
-unless-refused (verdict.Refused n p) o = refused n p
+unless-refused (verdict.Refused r) o = stop (refusal-of r)
 unless-refused verdict.Passes o = o
 
 abbrev pub table-run : List ℕ → Out Answer
@@ -95,7 +96,7 @@ countsOf a st = record { records = records (a .tree); goals = holes (a .tree); s
 
 -- THE MARK
 abbrev pub MarkedAs : (l : List ℕ) → (R R' : Rooms) → Out Answer → Mark → Type 0
-MarkedAs l R R' (stop r) m = (m ≡ mark.Refused (r .number) (r .place)) × Emptied R R'
+MarkedAs l R R' (stop s) m = (m ≡ mark.Refused (told s)) × Emptied R R'
 MarkedAs l R R' (ok a st) m = (m ≡ mark.Accepted (countsOf a st)) × Kept l R R' a st
 
 abbrev pub Marks : (l : List ℕ) → (R R' : Rooms) → Mark → Type 0

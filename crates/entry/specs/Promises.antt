@@ -71,7 +71,7 @@ pub record SameTree (l : List ℕ) (R' S' : Rooms) (c : Counts) : Type 0 where
 
 abbrev pub SameIf : (l : List ℕ) → (R' S' : Rooms) → Mark → Type 0
 SameIf l R' S' (mark.Accepted c) = SameTree l R' S' c
-SameIf l R' S' (mark.Refused n p) = Unit {0}
+SameIf l R' S' (mark.Refused r) = Unit {0}
 
 abbrev pub TwoRunsAgree : Type 0
 TwoRunsAgree =

@@ -12,6 +12,7 @@ use arena::load::load;
 use layout::header::expected_field;
 use numbers::Sort;
 use numbers::Term;
+use numbers::refusal::Refusal;
 use rooms::GOALS;
 use rooms::PROPOSITIONS;
 use rooms::TREE;
@@ -36,17 +37,18 @@ pub struct Counts {
     pub made: u16,
 }
 
-// A refusal has document 01's number and place.
+// What a check answers.
 pub enum Mark {
     Accepted(Counts),
-    Refused(u8, u16),
+    Refused(Refusal),
 }
 
 // The run of a table that passes its tests: its root, held to what it expects, with nothing made yet and an empty context.
 fn run(file: &[u8], tree: &mut [u8], goals: &mut [u8], props: &mut [u8], work: &mut [u8]) -> Ran
     requires { ⌜ Good Check (now file) ⌝ }
     requires { ⌜ Exact (rooms (now tree) (now goals) (now props) (now work)) ⌝ }
-    ensures { λ r. ⌜ RanAs (now (file .entry)) («root-run» (now (file .entry))) (rooms (now (tree .exit)) (now (goals .exit)) (now (props .exit)) (now (work .exit))) r ⌝ }
+    ensures { λ r. ⌜ RanAs (now (file .entry)) («root-run» (now (file .entry)))
+        (rooms (now (tree .exit)) (now (goals .exit)) (now (props .exit)) (now (work .exit))) r ⌝ }
 {
     load(file, work, props);
     checker::check(
@@ -63,6 +65,7 @@ fn run(file: &[u8], tree: &mut [u8], goals: &mut [u8], props: &mut [u8], work: &
             serials: 0,
             made: 0,
             context: 0,
+            asked: State::NO_PICTURE,
         },
     )
 }
@@ -79,12 +82,13 @@ fn finish(
     requires { ⌜ 16 ≤ length (now file) ⌝ }
     requires { ⌜ Exact (rooms (now tree) (now goals) (now props) (now work)) ⌝ }
     requires { ⌜ RanAs (now file) («root-run» (now file)) (rooms (now tree) (now goals) (now props) (now work)) answer ⌝ }
-    ensures { λ m. ⌜ MarkedAs (now (file .entry)) (rooms (now (tree .entry)) (now (goals .entry)) (now (props .entry)) (now (work .entry))) (rooms (now (tree .exit)) (now (goals .exit)) (now (props .exit)) (now (work .exit))) («root-run» (now (file .entry))) m ⌝ }
+    ensures { λ m. ⌜ MarkedAs (now (file .entry)) (rooms (now (tree .entry)) (now (goals .entry)) (now (props .entry)) (now (work .entry)))
+        (rooms (now (tree .exit)) (now (goals .exit)) (now (props .exit)) (now (work .exit))) («root-run» (now (file .entry))) m ⌝ }
 {
     match answer {
         Ran::Refused(e) => {
             clear_rooms(tree, goals, props, work);
-            Mark::Refused(e.number, e.place)
+            Mark::Refused(e)
         }
         Ran::Has(_, st) => {
             let count = count_of(file, st);
@@ -108,11 +112,12 @@ pub fn check_table(
     work: &mut [u8],
 ) -> Mark
     requires { ⌜ Exact (rooms (now tree) (now goals) (now props) (now work)) ⌝ }
-    ensures { λ m. ⌜ MarkedAs (now (file .entry)) (rooms (now (tree .entry)) (now (goals .entry)) (now (props .entry)) (now (work .entry))) (rooms (now (tree .exit)) (now (goals .exit)) (now (props .exit)) (now (work .exit))) («table-run» (now (file .entry))) m ⌝ }
+    ensures { λ m. ⌜ MarkedAs (now (file .entry)) (rooms (now (tree .entry)) (now (goals .entry)) (now (props .entry)) (now (work .entry)))
+        (rooms (now (tree .exit)) (now (goals .exit)) (now (props .exit)) (now (work .exit))) («table-run» (now (file .entry))) m ⌝ }
 {
-    if let Verdict::Refused(n, place) = test_table(file, work, Purpose::Check) {
+    if let Verdict::Refused(r) = test_table(file, work, Purpose::Check) {
         clear_rooms(tree, goals, props, work);
-        return Mark::Refused(n, place);
+        return Mark::Refused(r);
     }
     let answer = run(file, tree, goals, props, work);
     finish(file, tree, goals, props, work, answer)
@@ -126,7 +131,8 @@ pub fn check(
     props: &mut [u8],
     work: &mut [u8],
 ) -> Mark
-    ensures { λ m. ⌜ Marks (now (file .entry)) (rooms (now (tree .entry)) (now (goals .entry)) (now (props .entry)) (now (work .entry))) (rooms (now (tree .exit)) (now (goals .exit)) (now (props .exit)) (now (work .exit))) m ⌝ }
+    ensures { λ m. ⌜ Marks (now (file .entry)) (rooms (now (tree .entry)) (now (goals .entry)) (now (props .entry)) (now (work .entry)))
+        (rooms (now (tree .exit)) (now (goals .exit)) (now (props .exit)) (now (work .exit))) m ⌝ }
 {
     if long_enough(tree, goals, props, work) {
         check_table(
@@ -138,6 +144,6 @@ pub fn check(
         )
     } else {
         clear_rooms(tree, goals, props, work);
-        Mark::Refused(1, 0)
+        Mark::Refused(Refusal::new(1, 0))
     }
 }

@@ -29,7 +29,8 @@ pub fn long_enough(tree: &[u8], goals: &[u8], props: &[u8], work: &[u8]) -> bool
 
 // Every room becomes zeros, as far as it goes and no further than its listed size.
 pub fn clear_rooms(tree: &mut [u8], goals: &mut [u8], props: &mut [u8], work: &mut [u8])
-    ensures { λ _. ⌜ Emptied (rooms (now (tree .entry)) (now (goals .entry)) (now (props .entry)) (now (work .entry))) (rooms (now (tree .exit)) (now (goals .exit)) (now (props .exit)) (now (work .exit))) ⌝ }
+    ensures { λ _. ⌜ Emptied (rooms (now (tree .entry)) (now (goals .entry)) (now (props .entry)) (now (work .entry)))
+        (rooms (now (tree .exit)) (now (goals .exit)) (now (props .exit)) (now (work .exit))) ⌝ }
 {
     clear(tree, TREE);
     clear(goals, GOALS);
@@ -58,7 +59,8 @@ pub fn clear_rest(
     requires { ⌜ (16 * records ≤ «tree-bytes») × («tree-bytes» ≤ length (now tree)) ⌝ }
     requires { ⌜ (8 * holes ≤ «goals-bytes») × («goals-bytes» ≤ length (now goals)) ⌝ }
     requires { ⌜ (16 * count ≤ «props-bytes») × («props-bytes» ≤ length (now props)) ⌝ }
-    ensures { λ _. ⌜ Rest records holes count (rooms (now (tree .entry)) (now (goals .entry)) (now (props .entry)) (now (work .entry))) (rooms (now (tree .exit)) (now (goals .exit)) (now (props .exit)) (now (work .exit))) ⌝ }
+    ensures { λ _. ⌜ Rest records holes count (rooms (now (tree .entry)) (now (goals .entry)) (now (props .entry)) (now (work .entry)))
+        (rooms (now (tree .exit)) (now (goals .exit)) (now (props .exit)) (now (work .exit))) ⌝ }
 {
     trim(tree, 16 * (records as usize), TREE);
     trim(goals, 8 * (holes as usize), GOALS);

@@ -6,6 +6,7 @@ use Prim.Native.Nat.{ℕ}
 use lib.ListN.{length}
 use lib.Dec.{leb}
 use Rattle.numbers.specs.declared.record.Record.{Record}
+use Rattle.numbers.specs.declared.refusal.Refusal.{Refusal}
 use Rattle.numbers.specs.Records.{Put}
 use Rattle.table.specs.declared.Purpose.{Purpose}
 use Rattle.table.specs.declared.Verdict.{Verdict}
@@ -38,8 +39,8 @@ unfoldable pub accepted-record : Counts → Record
 accepted-record n = record { kind = 0; count = 0; a = 0; b = 0; c = 0; parameters = n .records ∷ n .goals ∷ n .serials ∷ n .made ∷ [] }
 
 -- a refusal: 1, its number, its place, and the table that the place is in
-unfoldable pub refused-record : ℕ → ℕ → ℕ → Record
-refused-record n p t = record { kind = 1; count = n; a = p; b = t; c = 0; parameters = 0 ∷ 0 ∷ 0 ∷ 0 ∷ [] }
+unfoldable pub refused-record : Refusal → ℕ → Record
+refused-record r t = record { kind = 1; count = r .number; a = r .place; b = t; c = 0; parameters = 0 ∷ 0 ∷ 0 ∷ 0 ∷ [] }
 
 abbrev pub no-counts : Counts
 no-counts = record { records = 0; goals = 0; serials = 0; made = 0 }
@@ -51,15 +52,15 @@ table-number Edit = 2
 
 unfoldable pub verdict-record : Verdict → Record
 verdict-record verdict.Passes = accepted-record no-counts
-verdict-record (verdict.Refused n p) = refused-record n p 0
+verdict-record (verdict.Refused r) = refused-record r 0
 
 unfoldable pub mark-record : Mark → Record
 mark-record (mark.Accepted n) = accepted-record n
-mark-record (mark.Refused n p) = refused-record n p 0
+mark-record (mark.Refused r) = refused-record r 0
 
 unfoldable pub filled-record : Filled → Record
 filled-record (filled.Accepted n) = accepted-record n
-filled-record (filled.Refused n p w) = refused-record n p (table-number w)
+filled-record (filled.Refused r w) = refused-record r (table-number w)
 
 -- A RIGHT ANSWER stands as a record in the answer room, which is a before and a' after
 pub record Written (A : Type 0) (Right : A → Type 0) (form : A → Record) (a a' : List ℕ) : Type 0 where

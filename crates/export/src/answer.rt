@@ -6,6 +6,7 @@ use entry::Mark;
 use filling::answer::Filled;
 use filling::answer::Which;
 use numbers::record::Record;
+use numbers::refusal::Refusal;
 use table::Verdict;
 
 fn accepted(n: Counts) -> Record
@@ -21,13 +22,13 @@ fn accepted(n: Counts) -> Record
     }
 }
 
-fn refused(n: u8, place: u16, table: u16) -> Record
-    ensures { λ r. ⌜ r ≡ «refused-record» n place table ⌝ }
+fn refused(e: Refusal, table: u16) -> Record
+    ensures { λ r. ⌜ r ≡ «refused-record» e table ⌝ }
 {
     Record {
         kind: 1,
-        count: n,
-        a: place,
+        count: e.number,
+        a: e.place,
         b: table,
         c: 0,
         parameters: [0, 0, 0, 0],
@@ -56,7 +57,7 @@ pub fn of_verdict(v: Verdict) -> Record
                 made: 0,
             })
         }
-        Verdict::Refused(n, place) => refused(n, place, 0),
+        Verdict::Refused(e) => refused(e, 0),
     }
 }
 
@@ -65,7 +66,7 @@ pub fn of_mark(m: Mark) -> Record
 {
     match m {
         Mark::Accepted(n) => accepted(n),
-        Mark::Refused(n, place) => refused(n, place, 0),
+        Mark::Refused(e) => refused(e, 0),
     }
 }
 
@@ -74,6 +75,6 @@ pub fn of_filled(f: Filled) -> Record
 {
     match f {
         Filled::Accepted(n) => accepted(n),
-        Filled::Refused(n, place, which) => refused(n, place, table_number(which)),
+        Filled::Refused(e, which) => refused(e, table_number(which)),
     }
 }

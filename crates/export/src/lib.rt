@@ -57,7 +57,8 @@ pub extern "C" fn sporekettle_check(
     work: &mut [u8],
     answer: &mut [u8],
 ) -> u32
-    ensures { λ r. ⌜ CheckReturns (now (file .entry)) (rooms (now (tree .entry)) (now (goals .entry)) (now (props .entry)) (now (work .entry))) (rooms (now (tree .exit)) (now (goals .exit)) (now (props .exit)) (now (work .exit))) (now (answer .entry)) (now (answer .exit)) r ⌝ }
+    ensures { λ r. ⌜ CheckReturns (now (file .entry)) (rooms (now (tree .entry)) (now (goals .entry)) (now (props .entry)) (now (work .entry)))
+        (rooms (now (tree .exit)) (now (goals .exit)) (now (props .exit)) (now (work .exit))) (now (answer .entry)) (now (answer .exit)) r ⌝ }
 {
     if answer.len() < ANSWER {
         return NO_ROOM;
@@ -80,7 +81,9 @@ pub extern "C" fn sporekettle_fill(
     edited: &mut [u8],
     answer: &mut [u8],
 ) -> u32
-    ensures { λ r. ⌜ FillReturns (lent (now (tree .entry)) (now (goals .entry)) (now (props .entry)) (now (work .entry)) (now (edited .entry))) (lent (now (tree .exit)) (now (goals .exit)) (now (props .exit)) (now (work .exit)) (now (edited .exit))) (now (old .entry)) (now (filling .entry)) goal (now (answer .entry)) (now (answer .exit)) r ⌝ }
+    ensures { λ r. ⌜ FillReturns (lent (now (tree .entry)) (now (goals .entry)) (now (props .entry)) (now (work .entry)) (now (edited .entry)))
+        (lent (now (tree .exit)) (now (goals .exit)) (now (props .exit)) (now (work .exit)) (now (edited .exit))) (now (old .entry))
+        (now (filling .entry)) goal (now (answer .entry)) (now (answer .exit)) r ⌝ }
 {
     if answer.len() < ANSWER {
         return NO_ROOM;

@@ -18,8 +18,8 @@ use show::arguments::write_argument;
 use show::input::LONGEST;
 use show::input::read_argument;
 
-fn refused(n: u8, place: u16, which: Which) {
-    show::refusal(n, place);
+// The end of a refusal's line.
+fn in_table(which: Which) {
     match which {
         Which::Old => show::text(b" old\n"),
         Which::Filling => show::text(b" filling\n"),
@@ -43,8 +43,9 @@ fn answer(old: &[u8], goal: u16, filling: &[u8], edited: &mut [u8]) -> bool {
         &mut work,
         edited,
     ) {
-        Filled::Refused(n, place, which) => {
-            refused(n, place, which);
+        Filled::Refused(e, which) => {
+            show::refusal(e);
+            in_table(which);
             false
         }
         Filled::Accepted(c) => {

@@ -157,7 +157,7 @@ module _ {S S' : Lent} {l f : List ℕ} {k : ℕ} {a : Answer} {r : Filled} (z :
     -- whatever the edited table's tests say
     agrees-tests : (v : Verdict) → EditedAs S S' (z .table) (z .goal) r v → Marked (unless-refused v (root-run (z .table))) → AgreesWith r
     unfolding unless-refused
-    agrees-tests (verdict.Refused n p) y w = subst⁻¹ AgreesWith (y .answer) (refl, w .0, w .1)
+    agrees-tests (verdict.Refused u) y w = subst⁻¹ AgreesWith (y .answer) (refl, w .0, w .1)
     agrees-tests verdict.Passes y w = agrees-run own-run (root-run (z .table)) refl y w follows
 
     agrees : long-enough R ≡ true → Marks (z .table) R R' m → AgreesWith r

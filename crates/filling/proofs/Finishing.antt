@@ -50,7 +50,7 @@ table-kept size n old new h t =
     (λ i k. let low : i < size = omega arith in getD-take size new i 0 low ∙ t .kept i low ∙ sym (getD-take size old i 0 low))
 
 module _ (S S' : Lent) (size serials : ℕ) (g : Gap) (o : Out Answer) (begun : g .state .serials ≡ serials) (answer : Outcome) (came : RanAs (take size (S .edited)) o (S .rooms) answer) (r : Filled) where
-  pub run-refused : (x : Refusal) → answer ≡ ran.Refused x → Refuses S S' (x .number) (x .place) Edit r → RunAs S S' (take size (S .edited)) g r o
+  pub run-refused : (x : Refusal) → answer ≡ ran.Refused x → Refuses S S' x Edit r → RunAs S S' (take size (S .edited)) g r o
   run-refused x e z = subst⁻¹ (RunAs S S' (take size (S .edited)) g r) (subst (RanAs (take size (S .edited)) o (S .rooms)) e came) z
 
   pub run-accepted : (T : Sort) (st : State) (c : ℕ) → answer ≡ ran.Has T st → size ≤ length (S .edited) → c ≡ countOf (take size (S .edited)) st

@@ -1,6 +1,6 @@
 -- An answer in some rooms is the answer in others: in rooms of just the listed sizes, whatever they held before; and in rooms of any length, of which these are
 -- the first bytes. Assumes nothing.
-use mathlib.Core.Path.{_≡_, ap, sym, subst⁻¹, _∙_}
+use mathlib.Core.Path.{_≡_, ap, sym, subst, subst⁻¹, _∙_}
 use mathlib.Core.Bool.{Bool, true, false, _&&_}
 use mathlib.Core.List.{List, [], _++_}
 use Prim.Native.Nat.{ℕ, _≤_}
@@ -9,6 +9,8 @@ use borrow.Author.Tests.{leb-true}
 use lib.ListN.{length, take, drop, length-take}
 use lib.Dec.{leb, ltb}
 use lib.Seq.{length-take-le, take-append-le}
+use Rattle.numbers.specs.declared.refusal.Refusal.{Refusal}
+use Rattle.numbers.specs.Refusals.{refusal-at}
 use Rattle.rules.specs.State.{St}
 use Rattle.rules.specs.Tree.{Gap, holes}
 use Rattle.rules.specs.Step.{Out, stop, ok, Answer}
@@ -32,7 +34,7 @@ use Rattle.filling.specs.Steps.{ExactAll}
 
 -- REFUSALS AND ACCEPTANCES CARRY OVER from the rooms S to the rooms T
 pub record Carries (S S' T T' : Lent) : Type 0 where
-  pub refuses : {n p : ℕ} {w : Which} {r : Filled} → Refuses S S' n p w r → Refuses T T' n p w r
+  pub refuses : {e : Refusal} {w : Which} {r : Filled} → Refuses S S' e w r → Refuses T T' e w r
   pub accepts : {e : List ℕ} {g : Gap} {b : Answer} {st : St} {r : Filled} → Accepts S S' e g b st r → Accepts T T' e g b st r
 
 -- then so does every stage
@@ -42,7 +44,7 @@ module _ {S S' T T' : Lent} (c : Carries S S' T T') where
   run-on e g r (ok b st) z = c .accepts z
 
   pub edited-on : (e : List ℕ) (g : Gap) (r : Filled) (v : Verdict) → EditedAs S S' e g r v → EditedAs T T' e g r v
-  edited-on e g r (verdict.Refused n p) z = c .refuses z
+  edited-on e g r (verdict.Refused u) z = c .refuses z
   edited-on e g r verdict.Passes z = run-on e g r (at-goal (termAt e (g .term)) g) z
 
   pub goal-on : (l f : List ℕ) (k : ℕ) (a : Answer) (r : Filled) → Goal S S' l f k a r → Goal T T' l f k a r
@@ -62,7 +64,7 @@ module _ {S S' T T' : Lent} (c : Carries S S' T T') where
   choice-on l f k a r true z = goal-on l f k a r z
 
   pub filling-on : (l f : List ℕ) (k : ℕ) (a : Answer) (r : Filled) (v : Verdict) → FillingAs S S' l f k a r v → FillingAs T T' l f k a r v
-  filling-on l f k a r (verdict.Refused n p) z = c .refuses z
+  filling-on l f k a r (verdict.Refused u) z = c .refuses z
   filling-on l f k a r verdict.Passes z = choice-on l f k a r (ltb k (holes (a .tree))) z
 
   pub old-on : (l f : List ℕ) (k : ℕ) (r : Filled) (o : Out Answer) → OldAs S S' l f k r o → OldAs T T' l f k r o
@@ -120,8 +122,8 @@ module _ (S : Lent) (long : all-long S ≡ true) where
   pub fills-long : (S' : Lent) (l f : List ℕ) (k : ℕ) (r : Filled) → OldAs (firsts S) S' l f k r (table-run l) → Fills S (followed S' S) l f k r
   fills-long S' l f k r z = subst⁻¹ (RoomsAs S (followed S' S) l f k r) long (old-on (carries-whole S') l f k r (table-run l) z)
 
-pub fills-short : (S S' : Lent) (l f : List ℕ) (k : ℕ) (r : Filled) → all-long S ≡ false → Refuses S S' 1 0 Old r → Fills S S' l f k r
-fills-short S S' l f k r short z = subst⁻¹ (RoomsAs S S' l f k r) short z
+pub fills-short : (S S' : Lent) (l f : List ℕ) (k : ℕ) (r : Filled) (u : Refusal) → all-long S ≡ false → u ≡ refusal-at 1 0 → Refuses S S' u Old r → Fills S S' l f k r
+fills-short S S' l f k r u short e z = subst⁻¹ (RoomsAs S S' l f k r) short (subst (λ (u : Refusal). Refuses S S' u Old r) e z)
 
 -- what the code's test of the rooms says
 module _ (tree goals ps work edited : List ℕ) (b : Bool) (is : b ≡ long-enough (rooms tree goals ps work)) where

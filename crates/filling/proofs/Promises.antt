@@ -7,6 +7,8 @@ use Prim.Native.Nat.{ℕ, _<_}
 use native.Mathlib.Omega.{arith}
 use lib.ListN.{length, getD, take, length-map}
 use lib.Dec.{ltb}
+use Rattle.numbers.specs.declared.refusal.Refusal.{Refusal}
+use Rattle.numbers.specs.Refusals.{refusal-at}
 use Rattle.rules.specs.State.{St}
 use Rattle.rules.specs.Term.{sorries}
 use Rattle.rules.specs.Tree.{Gap, goals, holes}
@@ -26,6 +28,7 @@ use Rattle.editing.specs.Renumbered.{StandsFor}
 use Rattle.editing.proofs.Edits.{goal-fillable, edited-good}
 use Rattle.editing.proofs.Alike.{edited-unique}
 use Rattle.editing.proofs.Renumbered.{edited-stands-for}
+use Rattle.step.specs.Contract.{told}
 use Rattle.step.proofs.Goals.{few-goals, goal-unique}
 use Rattle.entry.specs.declared.Counts.{Counts}
 use Rattle.entry.specs.Mark.{root-run, table-run}
@@ -44,10 +47,9 @@ abbrev Stage : Type 1
 Stage = Lent → Lent → Filled → Type 0
 
 record Refused (F : Stage) : Type 0 where
-  number : ℕ
-  place : ℕ
+  refusal : Refusal
   in-table : Which
-  so : (S S' : Lent) (r : Filled) → F S S' r → Refuses S S' number place in-table r
+  so : (S S' : Lent) (r : Filled) → F S S' r → Refuses S S' refusal in-table r
 
 module _ (l f : List ℕ) (k : ℕ) where
   record Found (F : Stage) : Type 0 where
@@ -62,19 +64,19 @@ module _ (l f : List ℕ) (k : ℕ) where
   Alike F = Refused F ⊎ Found F
 
   by-number : Good Check l → Good Filling f → (a : Answer) (st : St) → root-run l ≡ ok a st → (b : Bool) → Alike (λ S S' r. GoalAs S S' l f k a r b)
-  by-number good fills a st run false = inl record { number = 31; place = 0; in-table = which.Old; so = λ S S' r x. x }
+  by-number good fills a st run false = inl record { refusal = refusal-at 31 0; in-table = which.Old; so = λ S S' r x. x }
   by-number good fills a st run true = inr record { old-good = good; good = fills; answer = a; state = st; run = run; so = λ S S' r x. x }
 
   by-filling : Good Check l → (a : Answer) (st : St) → root-run l ≡ ok a st → (v : Verdict) → tests Filling f ≡ v → Alike (λ S S' r. FillingAs S S' l f k a r v)
-  by-filling good a st run (verdict.Refused n p) e = inl record { number = n; place = p; in-table = which.Filling; so = λ S S' r x. x }
+  by-filling good a st run (verdict.Refused u) e = inl record { refusal = u; in-table = which.Filling; so = λ S S' r x. x }
   by-filling good a st run verdict.Passes e = by-number good e a st run (ltb k (holes (a .tree)))
 
   by-old : (o : Out Answer) → table-run l ≡ o → Alike (λ S S' r. OldAs S S' l f k r o)
-  by-old (stop s) e = inl record { number = s .number; place = s .place; in-table = which.Old; so = λ S S' r x. x }
+  by-old (stop s) e = inl record { refusal = told s; in-table = which.Old; so = λ S S' r x. x }
   by-old (ok a st) e = let z = table-ok l a st e in by-filling (z .0) a st (z .1) (tests Filling f) refl
 
   by-rooms : (b : Bool) → Alike (λ S S' r. RoomsAs S S' l f k r b)
-  by-rooms false = inl record { number = 1; place = 0; in-table = which.Old; so = λ S S' r x. x }
+  by-rooms false = inl record { refusal = refusal-at 1 0; in-table = which.Old; so = λ S S' r x. x }
   by-rooms true = by-old (table-run l) refl
 
 -- THE TABLE e that an acceptance leaves
@@ -83,7 +85,7 @@ table-left l f e S size h = ap (λ (n : ℕ). take n (S .edited)) (sym size) ∙
 
 -- AN ACCEPTED FILLING
 module _ (l f : List ℕ) (k : ℕ) (S S' : Lent) (c : Counts) where
-  not-refused : {A : Type 0} {n p : ℕ} {w : Which} → Refuses S S' n p w (filled.Accepted c) → A
+  not-refused : {A : Type 0} {u : Refusal} {w : Which} → Refuses S S' u w (filled.Accepted c) → A
   not-refused x = absurd (let y = x .answer in let z : _≡_ {A = ℕ} 0 1 = cc in omega arith)
 
   kept-run : (e : List ℕ) (g : Gap) (o : Out Answer) → RunAs S S' e g (filled.Accepted c) o → take (length e) (S' .edited) ≡ e
@@ -91,7 +93,7 @@ module _ (l f : List ℕ) (k : ℕ) (S S' : Lent) (c : Counts) where
   kept-run e g (ok b st) x = x .table
 
   kept : (e : List ℕ) (g : Gap) (v : Verdict) → EditedAs S S' e g (filled.Accepted c) v → (v ≡ verdict.Passes) × (take (length e) (S' .edited) ≡ e)
-  kept e g (verdict.Refused n p) x = not-refused x
+  kept e g (verdict.Refused u) x = not-refused x
   kept e g verdict.Passes x = (refl, kept-run e g (at-goal (termAt e (g .term)) g) x)
 
   module _ (a : Answer) (st : St) (run : root-run l ≡ ok a st) (z : Goal S S' l f k a (filled.Accepted c)) where
@@ -132,7 +134,7 @@ module _ (l f : List ℕ) (k : ℕ) (S S' Z Z' : Lent) (r s : Filled) where
   abbrev Same : Type 0
   Same = (r ≡ s) × SameIfFilled l f S' Z' r
 
-  both-refuse : {n p : ℕ} {w : Which} → Refuses S S' n p w r → Refuses Z Z' n p w s → Same
+  both-refuse : {u : Refusal} {w : Which} → Refuses S S' u w r → Refuses Z Z' u w s → Same
   both-refuse x y = (x .answer ∙ sym (y .answer), subst⁻¹ (SameIfFilled l f S' Z') (x .answer) tt)
 
   -- with one edited table and one goal
@@ -151,7 +153,7 @@ module _ (l f : List ℕ) (k : ℕ) (S S' Z Z' : Lent) (r s : Filled) where
         )
 
     same-edit : (v : Verdict) → EditedAs S S' e g r v → EditedAs Z Z' e g s v → Same
-    same-edit (verdict.Refused n p) x y = both-refuse x y
+    same-edit (verdict.Refused u) x y = both-refuse x y
     same-edit verdict.Passes x y = same-run (at-goal (termAt e (g .term)) g) x y
 
   -- the goals and the edited tables are one

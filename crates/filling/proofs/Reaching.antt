@@ -39,10 +39,10 @@ use Rattle.step.specs.declared.state.Ran.{Ran as Outcome}
 use Rattle.step.specs.declared.state.Ran.the-variants as ran
 use Rattle.step.specs.declared.state.Want.the-variants as want
 use Rattle.step.specs.Rooms.{Rooms, rooms, reads, ctxOf, countOf, Loaded, first-pictured}
-use Rattle.step.specs.Picture.{asked, picturedState, picturedType, PictureIs, PicturesAre, Copied, StartsAt}
+use Rattle.step.specs.Picture.{picturedState, picturedType, PictureIs, PicturesAre, Copied, StartsAt}
 use Rattle.step.specs.Contract.{Ready, Accepts, RanAs as Meets, runOf}
 use Rattle.step.proofs.Pictures.{picture-at, recalled}
-use Rattle.step.proofs.Starts.{nothing}
+use Rattle.step.proofs.Starts.{beginning}
 use Rattle.step.proofs.Goals.{goal-unique, picture-moved, ready-hole}
 use Rattle.entry.specs.Mark.{context-of, start-of, root-run}
 use Rattle.entry.specs.Ran.{Exact}
@@ -81,19 +81,19 @@ module _ {l f : List ℕ} {q : ℕ} {e : List ℕ} (h : Fillable l f q) (E : Edi
   o : Passed Check l
   o = good-passed (h .old-good)
 
-  -- j IS THAT TABLE with the Sorry still in its place
-  module _ {j : List ℕ} (J : Joined l f q (termBytes l q) j) where
+  -- j IS THAT TABLE with the Sorry still in its place, and the picture of the goal of this number is asked for
+  module _ {j : List ℕ} (J : Joined l f q (termBytes l q) j) (number : ℕ) where
     same-props : props j ≡ props e
     same-props = joined-counts E J .0
 
     old-terms : termAt j 0 ≡ termAt l 0
     old-terms = waiting-term h J 0 (o .counted .some)
 
-    pub wants : (n : ℕ) → n ≡ expected j → n < countOf j nothing
+    pub wants : (n : ℕ) → n ≡ expected j → n < countOf j (beginning number)
     wants n k = omega (arith, k, expected-joined J, props-joined J, expected-in (o .linked))
 
     module _ {old : List ℕ} (R : Rooms) (x : Exact R) (loaded : load.Loaded e old (R .props)) where
-      waiting-loaded : Loaded j (R .props) (countOf j nothing)
+      waiting-loaded : Loaded j (R .props) (countOf j (beginning number))
       waiting-loaded =
           record {
             arena = subst (λ (c : ℕ). Arena (R .props) c) (omega (arith, same-props)) (loaded .arena);
@@ -105,7 +105,7 @@ module _ {l f : List ℕ} {q : ℕ} {e : List ℕ} (h : Fillable l f q) (E : Edi
             long = omega (arith, x .props);
           }
 
-      pub ready-waiting : Ready j R 0 nothing
+      pub ready-waiting : Ready j R 0 (beginning number)
       ready-waiting =
           let all : nodes (termAt j 0) ≡ terms l = ap nodes old-terms ∙ nodes-root (o .formed) (o .linked) (o .counted .some) in
           let ps = props-joined E in
@@ -137,7 +137,7 @@ module _ {l f : List ℕ} {q : ℕ} {e : List ℕ} (h : Fillable l f q) (E : Edi
           }
 
       -- THE RUN is the old one
-      root-is : (n : ℕ) → n ≡ expected j → runOf j R 0 (check (reads j (R .props) (sort.Proposition (record { 0 = n })))) nothing ≡ root-run l
+      root-is : (n : ℕ) → n ≡ expected j → runOf j R 0 (check (reads j (R .props) (sort.Proposition (record { 0 = n })))) (beginning number) ≡ root-run l
       root-is n k =
           let n-in : n < props j = omega (arith, wants n k) in
           let old-in : expected l < props l = expected-in (o .linked) in
@@ -146,21 +146,21 @@ module _ {l f : List ℕ} {q : ℕ} {e : List ℕ} (h : Fillable l f q) (E : Edi
           (waiting-loaded .table n n-in ∙ ap (propAt j) (k ∙ expected-joined J) ∙ whole-prop h J (expected l) old-in)
           (ctx-none (reads j (R .props)) (R .work))
 
-      module _ (R' : Rooms) (r : Outcome) (n : ℕ) (k : n ≡ expected j) (meets : Meets j R R' 0 (want.Check (sort.Proposition (record { 0 = n }))) nothing r) (number : ℕ) (asks : asked (R .work) ≡ number)
+      module _ (R' : Rooms) (r : Outcome) (n : ℕ) (k : n ≡ expected j) (meets : Meets j R R' 0 (want.Check (sort.Proposition (record { 0 = n }))) (beginning number) r)
           (g : Gap) (goal : GoalOf l number g) where
-        pub accepts : (st : State) × Accepts j R R' nothing st (root-run l)
+        pub accepts : (st : State) × Accepts j R R' (beginning number) st (root-run l)
         accepts = at r meets
           where
-            at : (r : Outcome) → Meets j R R' 0 (want.Check (sort.Proposition (record { 0 = n }))) nothing r → (st : State) × Accepts j R R' nothing st (root-run l)
-            at (ran.Has T st) h = (st, subst (λ (o : Out Answer). Accepts j R R' nothing st o) (root-is n k) (h .accepted))
+            at : (r : Outcome) → Meets j R R' 0 (want.Check (sort.Proposition (record { 0 = n }))) (beginning number) r → (st : State) × Accepts j R R' (beginning number) st (root-run l)
+            at (ran.Has T st) h = (st, subst (λ (o : Out Answer). Accepts j R R' (beginning number) st o) (root-is n k) (h .accepted))
             at (ran.Refused x) h = absurd (false≢true (ap is-ok (sym (sym (root-is n k) ∙ h) ∙ goal .accepts)))
 
         pictured : PictureIs j (R' .props) (R' .work) (countOf j (accepts .0)) g
         pictured =
             let a = accepts .1 in
             let same : goal .answer ≡ a .answer = same-answer (goal .accepts) (a .accepts) in
-            picture-at 0 (goal .stands) (omega (arith, goal .number, asks, a .left .grown .asks))
-            (subst⁻¹ (λ (b : Answer). PicturesAre j (R' .props) (R' .work) (countOf j (accepts .0)) 0 (b .tree)) same (a .left .pictures))
+            picture-at 0 (goal .stands) (omega (arith, goal .number))
+            (subst⁻¹ (λ (b : Answer). PicturesAre j (R' .props) (R' .work) number (countOf j (accepts .0)) 0 (b .tree)) same (a .left .pictures))
 
         -- over the edited table again
         pub picture-there : PictureIs e (R' .props) (R' .work) (countOf j (accepts .0)) g

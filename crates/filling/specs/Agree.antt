@@ -7,6 +7,7 @@ use mathlib.Core.Bool.{true}
 use mathlib.Core.Logic.{_⊎_}
 use mathlib.Core.List.{List, _++_, map}
 use Prim.Native.Nat.{ℕ, _+_, _-_, _<_, _≤_}
+use Rattle.numbers.specs.Refusals.{refusal-at}
 use Rattle.rules.specs.State.{St, limit, later}
 use Rattle.rules.specs.Tree.{Gap, move-gap, goals}
 use Rattle.rules.specs.Step.{ok, Answer}
@@ -46,11 +47,11 @@ module _ {S S' : Lent} {l f : List ℕ} {k : ℕ} {a : Answer} {r : Filled} (z :
     pub over : limit < st .made + d .made
     pub place : ℕ
     pub behind : RunsAfter (z .goal .term) place (termAt l 0)
-    pub answer : m ≡ mark.Refused 30 place
+    pub answer : m ≡ mark.Refused (refusal-at 30 place)
     pub rooms : Emptied R R'
 
-  -- or it is accepted: in the old tree the filling's own stands for the goal, as do its goals, and serials made after the hole are moved up by as many as the filling
-  -- made. Only the numbers of made propositions are left open, as after any check
+  -- or it is accepted: in the old tree the filling's own stands for the goal, as do its goals, and serials made after the hole are moved up by as many as
+  -- the filling made. Only the numbers of made propositions are left open, as after any check
   pub record Grafted (c : Counts) (d : St) : Type 0 where
     pub fits : st .made + d .made ≤ limit
     pub filling : Answer
@@ -63,7 +64,7 @@ module _ {S S' : Lent} {l f : List ℕ} {k : ℕ} {a : Answer} {r : Filled} (z :
 
   -- IT AGREES with the filling's answer. A refusal, by the edited table's tests or by the filling's run, is the same at the same place
   abbrev pub Agrees : Filled → Type 0
-  Agrees (fill.Refused n p w) = (w ≡ Edit) × (m ≡ mark.Refused n p) × Emptied R R'
+  Agrees (fill.Refused e w) = (w ≡ Edit) × (m ≡ mark.Refused e) × Emptied R R'
   Agrees (fill.Accepted c) = Outgrown (own (z .goal) c) ⊎ Grafted c (own (z .goal) c)
 
 -- THE OLD CHECK, accepted with the counts c: what the rules say of the table, and what is left in its rooms

@@ -6,6 +6,8 @@ use mathlib.Core.List.{List}
 use Prim.Native.Nat.{ℕ, _-_}
 use lib.ListN.{length, take}
 use lib.Dec.{leb, ltb}
+use Rattle.numbers.specs.declared.refusal.Refusal.{Refusal}
+use Rattle.numbers.specs.Refusals.{refusal-at}
 use Rattle.numbers.specs.Rooms.{cleared}
 use Rattle.rules.specs.State.{St}
 use Rattle.rules.specs.Tree.{Gap, records, holes}
@@ -18,6 +20,7 @@ use Rattle.table.specs.Tests.{tests}
 use Rattle.table.specs.Reading.{termAt}
 use Rattle.editing.specs.Edited.{edited-bytes, Bytes, Edited, edited-tests}
 use Rattle.step.specs.Rooms.{Rooms, rooms}
+use Rattle.step.specs.Contract.{told}
 use Rattle.entry.specs.declared.Counts.{Counts}
 use Rattle.entry.specs.Mark.{long-enough, table-run, Emptied, Kept}
 use Rattle.filling.specs.declared.answer.Which.{Which}
@@ -37,8 +40,8 @@ unfoldable pub all-long : Lent → Bool
 all-long S = long-enough (S .rooms) && leb edited-bytes (length (S .edited))
 
 -- A REFUSAL, with the table that its place is in
-pub record Refuses (S S' : Lent) (n p : ℕ) (w : Which) (r : Filled) : Type 0 where
-  pub answer : r ≡ filled.Refused n p w
+pub record Refuses (S S' : Lent) (z : Refusal) (w : Which) (r : Filled) : Type 0 where
+  pub answer : r ≡ filled.Refused z w
   pub rooms : Emptied (S .rooms) (S' .rooms)
   pub edited : S' .edited ≡ cleared edited-bytes (S .edited)
 
@@ -54,12 +57,12 @@ pub record Accepts (S S' : Lent) (e : List ℕ) (g : Gap) (b : Answer) (st : St)
 
 -- 6. THE FILLING'S RUN, from the context and the counts reached at the hole
 abbrev pub RunAs : (S S' : Lent) → (e : List ℕ) → Gap → Filled → Out Answer → Type 0
-RunAs S S' e g r (stop z) = Refuses S S' (z .number) (z .place) Edit r
+RunAs S S' e g r (stop z) = Refuses S S' (told z) Edit r
 RunAs S S' e g r (ok b st) = Accepts S S' e g b st r
 
 -- 5. THE EDITED TABLE'S TESTS 3 and 6
 abbrev pub EditedAs : (S S' : Lent) → (e : List ℕ) → Gap → Filled → Verdict → Type 0
-EditedAs S S' e g r (verdict.Refused n p) = Refuses S S' n p Edit r
+EditedAs S S' e g r (verdict.Refused z) = Refuses S S' z Edit r
 EditedAs S S' e g r verdict.Passes = RunAs S S' e g r (at-goal (termAt e (g .term)) g)
 
 -- 4. THE GOAL k of the old run, if there is one: g, which stands at p with k goals before it; and the table edited at its Sorry record, of which there is but
@@ -74,22 +77,22 @@ pub record Goal (S S' : Lent) (l f : List ℕ) (k : ℕ) (a : Answer) (r : Fille
   pub answer : EditedAs S S' table goal r (edited-tests table)
 
 abbrev pub GoalAs : (S S' : Lent) → (l f : List ℕ) → ℕ → Answer → Filled → Bool → Type 0
-GoalAs S S' l f k a r false = Refuses S S' 31 0 Old r
+GoalAs S S' l f k a r false = Refuses S S' (refusal-at 31 0) Old r
 GoalAs S S' l f k a r true = Goal S S' l f k a r
 
 -- 3. THE FILLING'S TESTS 2 to 6
 abbrev pub FillingAs : (S S' : Lent) → (l f : List ℕ) → ℕ → Answer → Filled → Verdict → Type 0
-FillingAs S S' l f k a r (verdict.Refused n p) = Refuses S S' n p Filling r
+FillingAs S S' l f k a r (verdict.Refused z) = Refuses S S' z Filling r
 FillingAs S S' l f k a r verdict.Passes = GoalAs S S' l f k a r (ltb k (holes (a .tree)))
 
 -- 2. THE OLD TABLE'S TESTS AND RUN
 abbrev pub OldAs : (S S' : Lent) → (l f : List ℕ) → ℕ → Filled → Out Answer → Type 0
-OldAs S S' l f k r (stop z) = Refuses S S' (z .number) (z .place) Old r
+OldAs S S' l f k r (stop z) = Refuses S S' (told z) Old r
 OldAs S S' l f k r (ok a st) = FillingAs S S' l f k a r (tests purpose.Filling f)
 
 -- 1. THE ROOMS
 abbrev pub RoomsAs : (S S' : Lent) → (l f : List ℕ) → ℕ → Filled → Bool → Type 0
-RoomsAs S S' l f k r false = Refuses S S' 1 0 Old r
+RoomsAs S S' l f k r false = Refuses S S' (refusal-at 1 0) Old r
 RoomsAs S S' l f k r true = OldAs S S' l f k r (table-run l)
 
 -- THE ANSWER r to filling goal k of table l with table f

@@ -19,8 +19,8 @@ use Rattle.filling.specs.Fill.{Lent, all-long, Fills}
 abbrev pub left-table : (l f : List ℕ) → Lent → List ℕ
 left-table l f S = take (edited-size l f) (S .edited)
 
--- AN ACCEPTED FILLING OF GOAL k LEAVES THERE the old table edited at its Sorry number k, counted from the left: it passes a check's tests, and it stands for the old script
--- with the filling in that Sorry's place
+-- AN ACCEPTED FILLING OF GOAL k LEAVES THERE the old table edited at its Sorry number k, counted from the left: it passes a check's tests, and it stands
+-- for the old script with the filling in that Sorry's place
 abbrev pub sorry-of : List ℕ → ℕ → ℕ
 sorry-of l k = getD (sorries (termAt l 0)) k 0
 
@@ -34,16 +34,17 @@ pub record LeftEdited (l f : List ℕ) (k : ℕ) (e : List ℕ) : Type 0 where
 abbrev pub LeavesEdited : Type 0
 LeavesEdited = (l f : List ℕ) (k : ℕ) (S S' : Lent) (c : Counts) → Fills S S' l f k (filled.Accepted c) → LeftEdited l f k (left-table l f S')
 
--- TWO FILLINGS OF ONE GOAL WITH THE SAME BYTES AGREE, whatever the rooms held: in the answer, and after an acceptance in the edited table's bytes, in the filling's tree
--- and goals, and in the edited table's propositions, as two checks of it would (what stands behind these is settled by `Fills`)
+-- TWO FILLINGS OF ONE GOAL WITH THE SAME BYTES AGREE, whatever the rooms held: in the answer, and after an acceptance in the edited table's bytes, in the
+-- filling's tree and goals, and in the edited table's propositions, as two checks of it would (what stands behind these is settled by `Fills`)
 pub record SameEdit (l f : List ℕ) (S' Z' : Lent) (c : Counts) : Type 0 where
   pub table : left-table l f S' ≡ left-table l f Z'
   pub trees : SameTree (left-table l f S') (S' .rooms) (Z' .rooms) c
 
 abbrev pub SameIfFilled : (l f : List ℕ) → (S' Z' : Lent) → Filled → Type 0
 SameIfFilled l f S' Z' (filled.Accepted c) = SameEdit l f S' Z' c
-SameIfFilled l f S' Z' (filled.Refused n p w) = Unit {0}
+SameIfFilled l f S' Z' (filled.Refused e w) = Unit {0}
 
 abbrev pub TwoFillingsAgree : Type 0
 TwoFillingsAgree =
-    (l f : List ℕ) (k : ℕ) (S S' Z Z' : Lent) (r s : Filled) → Fills S S' l f k r → Fills Z Z' l f k s → all-long S ≡ all-long Z → (r ≡ s) × SameIfFilled l f S' Z' r
+    (l f : List ℕ) (k : ℕ) (S S' Z Z' : Lent) (r s : Filled) → Fills S S' l f k r → Fills Z Z' l f k s
+    → all-long S ≡ all-long Z → (r ≡ s) × SameIfFilled l f S' Z' r

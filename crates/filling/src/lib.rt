@@ -20,8 +20,9 @@ use entry::rooms::TREE;
 use entry::rooms::WORK;
 use entry::rooms::long_enough;
 use numbers::Term;
-use numbers::record::word;
+use numbers::refusal::Refusal;
 use run::run_filling;
+use step::node::goal_at;
 use table::Purpose;
 use table::Verdict;
 use table::test_table;
@@ -45,12 +46,14 @@ fn fill_hole(
     requires { ⌜ Fillable (now old) (now filling) (hole .0) ⌝ }
     requires { ⌜ HoleAt (now old) goal (hole .0) ⌝ }
     requires { ⌜ ExactAll (lent (now tree) (now goals) (now props) (now work) (now edited)) ⌝ }
-    ensures { λ r. ⌜ FillsHole (lent (now (tree .entry)) (now (goals .entry)) (now (props .entry)) (now (work .entry)) (now (edited .entry))) (lent (now (tree .exit)) (now (goals .exit)) (now (props .exit)) (now (work .exit)) (now (edited .exit))) (now (old .entry)) (now (filling .entry)) goal r ⌝ }
+    ensures { λ r. ⌜ FillsHole (lent (now (tree .entry)) (now (goals .entry)) (now (props .entry)) (now (work .entry)) (now (edited .entry)))
+        (lent (now (tree .exit)) (now (goals .exit)) (now (props .exit)) (now (work .exit)) (now (edited .exit))) (now (old .entry))
+        (now (filling .entry)) goal r ⌝ }
 {
     let size = edited_size(old, filling);
     edit(old, filling, hole, &mut edited[..size]);
-    if let Verdict::Refused(n, place) = test_edited(&edited[..size], work) {
-        return refuse(tree, goals, props, work, edited, n, place, Which::Edit);
+    if let Verdict::Refused(e) = test_edited(&edited[..size], work) {
+        return refuse(tree, goals, props, work, edited, e, Which::Edit);
     }
     run_filling(
         old,
@@ -80,15 +83,19 @@ fn fill_goal(
 ) -> Filled
     requires { ⌜ OldRan (now old) (rooms (now tree) (now goals) (now props) (now work)) count ⌝ }
     requires { ⌜ ExactAll (lent (now tree) (now goals) (now props) (now work) (now edited)) ⌝ }
-    ensures { λ r. ⌜ FillsGoal (lent (now (tree .entry)) (now (goals .entry)) (now (props .entry)) (now (work .entry)) (now (edited .entry))) (lent (now (tree .exit)) (now (goals .exit)) (now (props .exit)) (now (work .exit)) (now (edited .exit))) (now (old .entry)) (now (filling .entry)) goal r ⌝ }
+    ensures { λ r. ⌜ FillsGoal (lent (now (tree .entry)) (now (goals .entry)) (now (props .entry)) (now (work .entry)) (now (edited .entry)))
+        (lent (now (tree .exit)) (now (goals .exit)) (now (props .exit)) (now (work .exit)) (now (edited .exit))) (now (old .entry))
+        (now (filling .entry)) goal r ⌝ }
 {
-    if let Verdict::Refused(n, place) = test_table(filling, work, Purpose::Filling) {
-        return refuse(tree, goals, props, work, edited, n, place, Which::Filling);
+    if let Verdict::Refused(e) = test_table(filling, work, Purpose::Filling) {
+        return refuse(tree, goals, props, work, edited, e, Which::Filling);
     }
     if count <= goal {
-        return refuse(tree, goals, props, work, edited, 31, 0, Which::Old);
+        let e = Refusal::new(31, 0);
+        return refuse(tree, goals, props, work, edited, e, Which::Old);
     }
-    let hole = Term(word(goals, 8 * (goal as usize)));
+    let g = goal_at(goals, goal);
+    let hole = g.term;
     fill_hole(old, goal, filling, hole, tree, goals, props, work, edited)
 }
 
@@ -104,12 +111,12 @@ fn fill_table(
     edited: &mut [u8],
 ) -> Filled
     requires { ⌜ ExactAll (lent (now tree) (now goals) (now props) (now work) (now edited)) ⌝ }
-    ensures { λ r. ⌜ OldAs (lent (now (tree .entry)) (now (goals .entry)) (now (props .entry)) (now (work .entry)) (now (edited .entry))) (lent (now (tree .exit)) (now (goals .exit)) (now (props .exit)) (now (work .exit)) (now (edited .exit))) (now (old .entry)) (now (filling .entry)) goal r («table-run» (now (old .entry))) ⌝ }
+    ensures { λ r. ⌜ OldAs (lent (now (tree .entry)) (now (goals .entry)) (now (props .entry)) (now (work .entry)) (now (edited .entry)))
+        (lent (now (tree .exit)) (now (goals .exit)) (now (props .exit)) (now (work .exit)) (now (edited .exit))) (now (old .entry))
+        (now (filling .entry)) goal r («table-run» (now (old .entry))) ⌝ }
 {
     match check_table(old, tree, goals, props, work) {
-        Mark::Refused(n, place) => {
-            refuse(tree, goals, props, work, edited, n, place, Which::Old)
-        }
+        Mark::Refused(e) => refuse(tree, goals, props, work, edited, e, Which::Old),
         Mark::Accepted(c) => {
             let count = c.goals;
             fill_goal(old, goal, filling, tree, goals, props, work, edited, count)
@@ -128,7 +135,9 @@ pub fn fill(
     work: &mut [u8],
     edited: &mut [u8],
 ) -> Filled
-    ensures { λ r. ⌜ Fills (lent (now (tree .entry)) (now (goals .entry)) (now (props .entry)) (now (work .entry)) (now (edited .entry))) (lent (now (tree .exit)) (now (goals .exit)) (now (props .exit)) (now (work .exit)) (now (edited .exit))) (now (old .entry)) (now (filling .entry)) goal r ⌝ }
+    ensures { λ r. ⌜ Fills (lent (now (tree .entry)) (now (goals .entry)) (now (props .entry)) (now (work .entry)) (now (edited .entry)))
+        (lent (now (tree .exit)) (now (goals .exit)) (now (props .exit)) (now (work .exit)) (now (edited .exit))) (now (old .entry))
+        (now (filling .entry)) goal r ⌝ }
 {
     if long_enough(tree, goals, props, work) & (EDITED <= edited.len()) {
         fill_table(
@@ -142,6 +151,7 @@ pub fn fill(
             &mut edited[..EDITED],
         )
     } else {
-        refuse(tree, goals, props, work, edited, 1, 0, Which::Old)
+        let e = Refusal::new(1, 0);
+        refuse(tree, goals, props, work, edited, e, Which::Old)
     }
 }

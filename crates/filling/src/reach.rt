@@ -12,7 +12,6 @@ use layout::header::expected_field;
 use numbers::Sort;
 use numbers::Term;
 use step::picture::Start;
-use step::picture::ask;
 use step::picture::recall;
 use step::state::State;
 
@@ -32,21 +31,22 @@ pub fn reach(
     requires { ⌜ HoleAt (now old) goal (hole .0) ⌝ }
     requires { ⌜ Edited (now old) (now filling) (hole .0) (now table) × Counted (now table) ⌝ }
     requires { ⌜ Exact (rooms (now tree) (now goals) (now props) (now work)) ⌝ }
-    ensures { λ s. ⌜ (now (table .exit) ≡ now (table .entry)) × Reached (now (old .entry)) goal (now (table .entry)) (rooms (now (tree .exit)) (now (goals .exit)) (now (props .exit)) (now (work .exit))) s ⌝ }
+    ensures { λ s. ⌜ (now (table .exit) ≡ now (table .entry)) × Reached (now (old .entry)) goal (now (table .entry))
+        (rooms (now (tree .exit)) (now (goals .exit)) (now (props .exit)) (now (work .exit))) s ⌝ }
 {
     load(table, work, props);
-    ask(work, goal);
     let root = term_record(table, hole);
     put_term(table, hole, term_record(old, hole));
     let wanted = Sort::Proposition(expected_field(table));
-    let nothing = State {
+    let start = State {
         records: 0,
         goals: 0,
         serials: 0,
         made: 0,
         context: 0,
+        asked: goal,
     };
-    checker::check(table, tree, goals, props, work, Term(0), wanted, nothing);
+    checker::check(table, tree, goals, props, work, Term(0), wanted, start);
     put_term(table, hole, root);
     recall(work)
 }

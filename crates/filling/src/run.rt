@@ -33,21 +33,12 @@ fn finish(
     requires { ⌜ ExactAll (lent (now tree) (now goals) (now props) (now work) (now edited)) ⌝ }
     requires { ⌜ Fitting (take size (now edited)) size serials (rooms (now tree) (now goals) (now props) (now work)) answer ⌝ }
     requires { ⌜ size ≤ length (now edited) ⌝ }
-    ensures { λ r. ⌜ Finishes (lent (now (tree .entry)) (now (goals .entry)) (now (props .entry)) (now (work .entry)) (now (edited .entry))) (lent (now (tree .exit)) (now (goals .exit)) (now (props .exit)) (now (work .exit)) (now (edited .exit))) (take size (now (edited .entry))) serials answer r ⌝ }
+    ensures { λ r. ⌜ Finishes (lent (now (tree .entry)) (now (goals .entry)) (now (props .entry)) (now (work .entry)) (now (edited .entry)))
+        (lent (now (tree .exit)) (now (goals .exit)) (now (props .exit)) (now (work .exit)) (now (edited .exit))) (take size (now (edited .entry)))
+        serials answer r ⌝ }
 {
     match answer {
-        Ran::Refused(e) => {
-            refuse(
-                tree,
-                goals,
-                props,
-                work,
-                edited,
-                e.number,
-                e.place,
-                Which::Edit,
-            )
-        }
+        Ran::Refused(e) => refuse(tree, goals, props, work, edited, e, Which::Edit),
         Ran::Has(_, st) => {
             let count = count_of(&edited[..size], st);
             clear_rest(tree, goals, props, work, st.records, st.goals, count);
@@ -80,7 +71,9 @@ pub fn run_filling(
     requires { ⌜ (size ≤ length (now edited)) × Edited (now old) (now filling) (hole .0) (take size (now edited)) ⌝ }
     requires { ⌜ Good Check (take size (now edited)) ⌝ }
     requires { ⌜ ExactAll (lent (now tree) (now goals) (now props) (now work) (now edited)) ⌝ }
-    ensures { λ r. ⌜ RunsFilling (lent (now (tree .entry)) (now (goals .entry)) (now (props .entry)) (now (work .entry)) (now (edited .entry))) (lent (now (tree .exit)) (now (goals .exit)) (now (props .exit)) (now (work .exit)) (now (edited .exit))) (now (old .entry)) goal (take size (now (edited .entry))) r ⌝ }
+    ensures { λ r. ⌜ RunsFilling (lent (now (tree .entry)) (now (goals .entry)) (now (props .entry)) (now (work .entry)) (now (edited .entry)))
+        (lent (now (tree .exit)) (now (goals .exit)) (now (props .exit)) (now (work .exit)) (now (edited .exit))) (now (old .entry)) goal
+        (take size (now (edited .entry))) r ⌝ }
 {
     let start = reach(
         old,

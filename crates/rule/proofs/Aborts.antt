@@ -60,7 +60,7 @@ module _ {l : List ℕ} {R : Rooms} {k : Place} {st : State} (rd : Ready l R (k 
   unfolding answered
   abort-begins m e q g eg =
       let makes : MadeFor l (R .props) ps (inner st) (inner g) 1 (const made false) m =
-      made-for l (R .props) ps count free (inner st) (λ t. 1) (λ t. const made false) o ec el is (inner g) m e q (eg .0, ap (λ (n : ℕ). n + 1) (eg .1), eg .2, eg .3, eg .4) in
+      made-for l (R .props) ps count free (inner st) (λ t. 1) (λ t. const made false) o ec el is (inner g) m e q (eg .0, ap (λ (n : ℕ). n + 1) (eg .1), eg .2, eg .3, eg .4, eg .5) in
       asks rd among
       (doing-same (ap asking (sym (makes .stands .means)))
       (doing-step _ 0 begun (making-left R (makes .making)) (making-made (makes .making)) (making-serials (makes .making)) (made-goes makes (k .0) _ (kidAt l c₁, tt))))

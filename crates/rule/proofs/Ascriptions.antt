@@ -34,7 +34,7 @@ use Rattle.step.specs.declared.typing.Annotation.the-variants as annotation
 use Rattle.step.specs.declared.typing.Resolving.{Resolving}
 use Rattle.step.specs.declared.typing.Resolving.the-variants as resolving
 use Rattle.step.specs.Rooms.{Rooms, rooms, reads, ctxOf, stOf, countOf, Stands, Loaded, Base}
-use Rattle.step.specs.Contract.{Ready, Accepts, refusal-of, Refuses, runOf, RanAs}
+use Rattle.step.specs.Contract.{Ready, Accepts, refusal-of, Refuses, runOf, RanAs, synthesizes}
 use Rattle.step.specs.Under.{rest, kidAt}
 use Rattle.step.specs.Steps.{annotationOf, AnnotationIn, ResolvedTo, ResolvingAs, saying}
 use Rattle.step.proofs.Programs.{rest-refused, rest-ask, ask-refused, rest-conclude}
@@ -60,6 +60,10 @@ module _ {l : List ℕ} {R : Rooms} {k : Place} {st : State} (rd : Ready l R (k 
 
   pub as-place : ((k .0) < c₁) × (c₁ < terms l)
   as-place = subst⁻¹ (λ (r : TermRecord). ((k .0) < r .child1 .0) × (r .child1 .0 < terms l)) er (as-child (rd .base .table) (rd .here) kind)
+
+  pub as-alone : synthesizes (termRecord l (k .0) .kind) ≡ false
+  unfolding synthesizes
+  as-alone = ap synthesizes kind
 
   module _ (t : Sort) (et : ann ≡ annotation.Of t) where
     abbrev T : Ty

@@ -134,7 +134,7 @@ module _ {l : List ℕ} {R₀ : Rooms} {f : Rule} {R : Rooms} {q : Rest} {x : �
   -- IT HAS ANSWERED
   pub went : {s : State} → Asked l R₀ f R q x v s → {R₁ : Rooms} {T : Sort} {s₁ : State} → RanAs l R R₁ x v s (ran.Has T s₁) → Resumed l R₀ f R₁ q T (leaving s₁ (f .start .context))
   went {s} a {R₁} {s₁ = s₁} m =
-      let grown : Grown R R₁ (countOf l s) (countOf l s₁) (s .records) (s .goals) (s .context) = m .accepted .left .grown in
+      let grown : Grown R R₁ (countOf l s) (countOf l s₁) (s .records) (s .goals) (s .context) (s .asked) = m .accepted .left .grown in
       let g = doing-went x (s .context) (a .doing) (a .deep) refl refl v refl R₁ m in
       record {
         begun = a .begun;
@@ -185,7 +185,7 @@ module _ {l : List ℕ} {R₀ : Rooms} {k : ℕ} {w : Mode} {st₀ : State} {R :
     fresh =
         let a = entered-left R s (en .1) {l = l} (d .left .grown .arena) (few-entries d) in
         let e : suc (s .serials) ≡ s .serials + 1 = omega arith in
-        doing-step (κ (s .serials)) 1 d (record { records = a .records; goals = a .goals; context = a .context; trees = a .trees; pictures = a .pictures; grown = a .grown }) (d .made) (omega arith)
+        doing-step (κ (s .serials)) 1 d (record { records = a .records; goals = a .goals; context = a .context; asked = a .asked; trees = a .trees; pictures = a .pictures; grown = a .grown }) (d .made) (omega arith)
         (λ i. obey (κ (s .serials)) ks (record { serials = e i; made = s .made }))
 
     fresh-ctx : entry (x .0) (s .serials) A ∷ ctxOf l (R₀ .props) (R₀ .work) (st₀ .context) ≡ ctxOf l (R .props) work' (s .context + 1)

@@ -41,7 +41,7 @@ use Rattle.step.specs.Picture.{PicturesAre, Pictured}
 use Rattle.step.specs.Contract.{Ready, Left, Refuses, runOf, RanAs}
 use Rattle.step.specs.Under.{rest, Doing}
 use Rattle.step.proofs.Bounds.{ready-context}
-use Rattle.step.proofs.Holes.{pictured-hole, pictured-entries, pictured-asks, pictured-earlier, pictured-size}
+use Rattle.step.proofs.Holes.{pictured-hole, pictured-entries, pictured-earlier, pictured-size}
 use Rattle.step.proofs.Doing.{doing-start, doing-step, doing-stop, doing-has}
 use Rattle.step.proofs.Moves.{GrownTo, MadeFor, made-for, made-goes, full-stops, making-left, making-serials}
 use Rattle.step.proofs.Terms.{leaf-begins, is-ident, is-unit, is-sorry}
@@ -86,13 +86,14 @@ module _ {l : List ℕ} {R : Rooms} {k : ℕ} {st : State} (rd : Ready l R k st)
 
     module _ (nd : Record) (tr : List ℕ) (g : Goal) (gs : List ℕ) (en : nd ≡ nodeRec 15 k wanted none none 0) (put : Put (R .tree) (st .records) nd tr) (eg : g ≡ goalRec k wanted (st .context)) (put′ : PutGoal (R .goals) (st .goals) g gs)
         (work : List ℕ) (shown : Pictured (R .work) wanted st work) where
-      sorry-left : Left l R (rooms tr gs (R .props) work) st (record { records = st .records + 1; goals = st .goals + 1; serials = st .serials; made = st .made; context = st .context }) hole
+      sorry-left : Left l R (rooms tr gs (R .props) work) st (record { records = st .records + 1; goals = st .goals + 1; serials = st .serials; made = st .made; context = st .context; asked = st .asked }) hole
       unfolding TreesAre PicturesAre records holes
       sorry-left =
           record {
             records = omega arith;
             goals = omega arith;
             context = refl;
+            asked = refl;
             trees = (
               record {
                 typ = wanted;
@@ -102,7 +103,7 @@ module _ {l : List ℕ} {R : Rooms} {k : ℕ} {st : State} (rd : Ready l R k st)
               },
               tt,
             );
-            pictures = (λ e. pictured-hole rd wanted among work (shown .taken (sym (pictured-asks shown) ∙ sym e)), tt);
+            pictures = (λ e. pictured-hole rd wanted among work (shown .taken (sym e)), tt);
             grown =
                 record {
                   arena = rd .base .loaded .arena;
@@ -111,7 +112,6 @@ module _ {l : List ℕ} {R : Rooms} {k : ℕ} {st : State} (rd : Ready l R k st)
                   tree = λ i h. put .others i (omega arith);
                   goals = λ i h. put′ .others i (omega arith);
                   work = λ i h. pictured-entries shown i (omega (arith, ready-context rd));
-                  asks = pictured-asks shown;
                   picture = λ h. pictured-earlier shown h;
                   props-long = refl;
                   tree-long = put .size;
@@ -120,7 +120,7 @@ module _ {l : List ℕ} {R : Rooms} {k : ℕ} {st : State} (rd : Ready l R k st)
                 };
           }
 
-      pub sorry-fits : (s : State) → s ≡ record { records = st .records + 1; goals = st .goals + 1; serials = st .serials; made = st .made; context = st .context }
+      pub sorry-fits : (s : State) → s ≡ record { records = st .records + 1; goals = st .goals + 1; serials = st .serials; made = st .made; context = st .context; asked = st .asked }
           → RanAs l R (rooms tr gs (R .props) work) k (want.Check wanted) st (ran.Has wanted s)
       sorry-fits s es =
           subst⁻¹ (λ (s : State). RanAs l R (rooms tr gs (R .props) work) k (want.Check wanted) st (ran.Has wanted s)) es
@@ -164,7 +164,7 @@ module _ {l : List ℕ} {R : Rooms} {k : ℕ} {st : State} (rd : Ready l R k st)
 
     module _ (s : State) (m : Proposition) (e : ℕ) (q : o ≡ At m e) (grown : GrownTo st c e s) where
       true-made : MadeFor l (R .props) new (inner st) (inner s) 1 (const made true) m
-      true-made = made-for l (R .props) new c left (inner st) _ _ o ec el is (inner s) m e q (grown .0, ap (λ (n : ℕ). n + 1) (grown .1), grown .2, grown .3, grown .4)
+      true-made = made-for l (R .props) new c left (inner st) _ _ o ec el is (inner s) m e q (grown .0, ap (λ (n : ℕ). n + 1) (grown .1), grown .2, grown .3, grown .4, grown .5)
 
       pub true-has : (nd : Record) (tr : List ℕ) (s₁ : State) → nd ≡ nodeRec 1 k (sort.Proposition m) none none 0 → Put (R .tree) (st .records) nd tr → s₁ ≡ inner s
           → RanAs l R (rooms tr (R .goals) new (R .work)) k want.Synth st (ran.Has (sort.Proposition m) s₁)

@@ -33,7 +33,6 @@ use Rattle.step.specs.Picture.{PicturesAre}
 use Rattle.step.specs.Steps.{LetEntered, EnteredAs, closes, ClosedAs}
 use Rattle.step.specs.Contract.{Ready, Left, refusal-of, Refuses, runOf, RanAs}
 use Rattle.step.specs.Under.{Doing, kidAt}
-use Rattle.step.proofs.Pictures.{asked-same}
 use Rattle.step.proofs.Frames.{left-none}
 use Rattle.step.proofs.Doing.{doing-start, doing-base, doing-ctx, doing-step, doing-same, doing-stop}
 use Rattle.step.proofs.Terms.{double-begins, double-nodes, is-let, let-first, let-second}
@@ -107,6 +106,7 @@ module _ {l : List ℕ} {R₀ : Rooms} {f : Rule} {R : Rooms} {t : Sort} {s : St
           records = omega arith;
           goals = omega arith;
           context = refl;
+          asked = ap (λ (s : State). s .asked) (new .state);
           trees = tt;
           pictures = tt;
           grown =
@@ -117,7 +117,6 @@ module _ {l : List ℕ} {R₀ : Rooms} {f : Rule} {R : Rooms} {t : Sort} {s : St
                 tree = λ i h. refl;
                 goals = λ i h. refl;
                 work = new .kept;
-                asks = asked-same (R .work) work' (new .picture);
                 picture = λ k. new .picture;
                 props-long = new .long;
                 tree-long = refl;
@@ -141,7 +140,7 @@ module _ {l : List ℕ} {R₀ : Rooms} {f : Rule} {R : Rooms} {t : Sort} {s : St
     inside = sym (ap (ctxOf l ps' work') (sym two-more) ∙ new .context ∙ ap (λ (Γ : Ctx). entry y (s .serials + 1) (prop (new .body)) ∷ entry x (s .serials) (datatype (new .datatype)) ∷ Γ) outer)
 
     deeper-by : s₁ ≡ leaving s′ (s′ .context + 2)
-    deeper-by z = record { records = s₁ .records; goals = s₁ .goals; serials = s₁ .serials; made = s₁ .made; context = two-more z }
+    deeper-by z = record { records = s₁ .records; goals = s₁ .goals; serials = s₁ .serials; made = s₁ .made; context = two-more z; asked = s₁ .asked }
 
     pub let-asks : Asked l R₀ f R₂ (rest.LetEnd (record { 0 = s .serials }) (record { 0 = s .serials + 1 })) c₂ (f .want) s₁
     let-asks =

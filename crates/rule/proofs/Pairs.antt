@@ -140,7 +140,7 @@ module _ {l : List ℕ} {R : Rooms} {k : Place} {st : State} (rd : Ready l R (k 
             unfolding answered
             exists-begins m z q g eg =
                 let makes : MadeFor l (R .props) ps (inner st) (inner g) (size B) (put (i .0) B) m =
-                made-for l (R .props) ps count free (inner st) (λ t. size (roomAt t (R .props) (b .0))) (λ t. put (i .0) (roomAt t (R .props) (b .0))) o ec el puts (inner g) m z q (eg .0, ap (λ (n : ℕ). n + 1) (eg .1), eg .2, eg .3, eg .4) in
+                made-for l (R .props) ps count free (inner st) (λ t. size (roomAt t (R .props) (b .0))) (λ t. put (i .0) (roomAt t (R .props) (b .0))) o ec el puts (inner g) m z q (eg .0, ap (λ (n : ℕ). n + 1) (eg .1), eg .2, eg .3, eg .4, eg .5) in
                 asks rd among
                 (doing-same (ap (λ (P : Ty). ask (check (datatype (d .0))) (ctxOf l (R .props) (R .work) (st .context)) λ _. ask (check P) (ctxOf l (R .props) (R .work) (st .context)) λ _. by 13 (k .0) A []) (sym (makes .stands .means)))
                 (doing-step _ 0 begun (making-left R (makes .making)) (making-made (makes .making)) (making-serials (makes .making)) (goes ∙ made-goes makes (k .0) _ (kidAt l c₁, (kidAt l c₂, tt)))))

@@ -1,6 +1,6 @@
 -- What the pieces of a rule ask and promise: a rule that asks for a child, a rule whose child has answered, and what comes of it. Assumes nothing.
 use mathlib.Core.Path.{_≡_}
-use mathlib.Core.Bool.{Bool, true}
+use mathlib.Core.Bool.{Bool, true, false, cond}
 use mathlib.Core.List.{List}
 use Prim.Native.Nat.{ℕ, _+_, _*_, _<_, _≤_}
 use lib.ListN.{length}
@@ -89,16 +89,16 @@ module _ (l : List ℕ) (R₀ : Rooms) (f : Rule) where
     pub others : Inside l (f .term .0) (after (termRecord l (f .term .0)) q)
 
 -- WHAT A PIECE ANSWERS for the term k, which is wanted as w from R₀ and st₀: fewer than j children are left after the one that it asks for. Whatever a
--- rule or a term that goes on in its place comes to, it comes to
+-- rule or a term that goes on in its place comes to, it comes to. No term whose check is a comparison has another go on in its place
 abbrev pub NextIs : (l : List ℕ) (R₀ : Rooms) (k : ℕ) (w : Want) (st₀ : State) (j : ℕ) → Rooms → Next → Type 0
 NextIs l R₀ k w st₀ j R (next.Ask f q x v s) =
     Asked l R₀ f R q (x .0) v s
     × ((f .term .0 ≡ k) × (length (after (termRecord l k) q) < j))
     × ((R' : Rooms) (r : Ran) → RanAs l R₀ R' (f .term .0) (f .want) (f .start) r → RanAs l R₀ R' k w st₀ r)
-NextIs l R₀ k w st₀ j R (next.Instead x v s) =
-    (Ready l R (x .0) s × WantIn (countOf l s) v)
-    × (((k < x .0) × (x .0 < terms l)) × (0 < j))
-    × ((R' : Rooms) (r : Ran) → RanAs l R R' (x .0) v s r → RanAs l R₀ R' k w st₀ r)
+NextIs l R₀ k w st₀ j R (next.Instead x E s) =
+    (Ready l R (x .0) s × TypeIn (countOf l s) E)
+    × (((k < x .0) × (x .0 < terms l)) × (synthesizes (termRecord l k .kind) ≡ false))
+    × ((R' : Rooms) (r : Ran) → RanAs l R R' (x .0) (want.Check E) s r → RanAs l R₀ R' k w st₀ r)
 NextIs l R₀ k w st₀ j R (next.Done T s) = RanAs l R₀ R k w st₀ (ran.Has T s)
 NextIs l R₀ k w st₀ j R (next.Refused r) = RanAs l R₀ R k w st₀ (ran.Refused r)
 
@@ -154,12 +154,15 @@ abbrev pub ArmsAs : (l ps : List ℕ) → Want → Sort → Sort → Bool → Ty
 ArmsAs l ps want.Synth t u x = x ≡ alpha (reads l ps t) (reads l ps u)
 ArmsAs l ps (want.Check E) t u x = x ≡ true
 
--- what was synthesized of term k, before it is held against what is wanted
-pub record Settling (l tree ps : List ℕ) (k : ℕ) (wanted : Sort) (st : State) (r : Ran) : Type 0 where
+-- HOW A TERM IS BEGUN: of some kinds a check is a synthesis, and a comparison at its end
+unfoldable pub begun-as : (kind : ℕ) → Want → Want
+begun-as kind w = cond (synthesizes kind) want.Synth w
+
+-- term k, begun so from the rooms `start` with these goals and this work room at its end, has come to T
+pub record Ended (l tree ps : List ℕ) (k : ℕ) (w : Want) (st : State) (T : Sort) (s : State) : Type 0 where
   pub start : Rooms
   pub goals : List ℕ
   pub work : List ℕ
   pub ready : Ready l start k st
-  pub among : TypeIn (countOf l st) wanted
-  pub kind : synthesizes (termRecord l k .kind) ≡ true
-  pub ran : RanAs l start (rooms tree goals ps work) k want.Synth st r
+  pub among : WantIn (countOf l st) w
+  pub ran : RanAs l start (rooms tree goals ps work) k (begun-as (termRecord l k .kind) w) st (ran.Has T s)

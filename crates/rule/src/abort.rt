@@ -33,7 +33,8 @@ pub fn check(file: &[u8], props: &mut [u8], k: Term, wanted: Sort, st: State) ->
     requires { ⌜ Here (now file) (k .0) × (st .records < largest) ⌝ }
     requires { ⌜ Room (now file) (now props) st × TypeIn (countOf (now file) st) wanted ⌝ }
     requires { ⌜ termRecord (now file) (k .0) .kind ≡ 10 ⌝ }
-    ensures { λ n. ⌜ ((tree goals work : List ℕ) → Begins (now (file .entry)) (rooms tree goals (now (props .entry)) work) (rooms tree goals (now (props .exit)) work) (k .0) (Check wanted) st n) ⌝ }
+    ensures { λ n. ⌜ ((tree goals work : List ℕ) → Begins (now (file .entry)) (rooms tree goals (now (props .entry)) work)
+        (rooms tree goals (now (props .exit)) work) (k .0) (Check wanted) st n) ⌝ }
 {
     let count = count_of(file, st);
     let Made::At(m, end) = make_constant(props, count, left_of(st), false) else {
@@ -52,7 +53,8 @@ pub fn check(file: &[u8], props: &mut [u8], k: Term, wanted: Sort, st: State) ->
 
 pub fn aborts(tree: &mut [u8], f: Rule, t: Sort, st: State) -> Next
     requires { ⌜ 16 * (f .start .records) + 16 ≤ length (now tree) ⌝ }
-    ensures { λ n. ⌜ ((l goals ps work : List ℕ) → Resumes l (rooms (now (tree .entry)) goals ps work) (rooms (now (tree .exit)) goals ps work) f Aborts t st n) ⌝ }
+    ensures { λ n. ⌜ ((l goals ps work : List ℕ) → Resumes l (rooms (now (tree .entry)) goals ps work) (rooms (now (tree .exit)) goals ps work) f
+        Aborts t st n) ⌝ }
 {
     let w = f.want;
     let Sort::Proposition(_) = answered(w, t) else {

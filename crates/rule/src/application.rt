@@ -63,7 +63,8 @@ pub fn argument(file: &[u8], props: &[u8], work: &[u8], f: Rule, t: Sort, st: St
     requires { ⌜ Room (now file) (now props) st × TypeIn (countOf (now file) st) t ⌝ }
     requires { ⌜ 8 * (st .context) ≤ length (now work) ⌝ }
     requires { ⌜ termRecord (now file) (f .term .0) .child2 .0 < terms (now file) ⌝ }
-    ensures { λ n. ⌜ ((tree goals : List ℕ) → Resumes (now (file .entry)) (rooms tree goals (now (props .entry)) (now (work .entry))) (rooms tree goals (now (props .entry)) (now (work .entry))) f Argument t st n) ⌝ }
+    ensures { λ n. ⌜ ((tree goals : List ℕ) → Resumes (now (file .entry)) (rooms tree goals (now (props .entry)) (now (work .entry)))
+        (rooms tree goals (now (props .entry)) (now (work .entry))) f Argument t st n) ⌝ }
 {
     let Parts::Both(a, b) = split(props, count_of(file, st), t, Link::Impl) else {
         return object(file, props, work, f, t, st);
@@ -86,7 +87,8 @@ fn object(file: &[u8], props: &[u8], work: &[u8], f: Rule, t: Sort, st: State) -
     requires { ⌜ 8 * (st .context) ≤ length (now work) ⌝ }
     requires { ⌜ termRecord (now file) (f .term .0) .child2 .0 < terms (now file) ⌝ }
     requires { ⌜ Unsplit imp (now props) t ⌝ }
-    ensures { λ n. ⌜ ((tree goals : List ℕ) → Resumes (now (file .entry)) (rooms tree goals (now (props .entry)) (now (work .entry))) (rooms tree goals (now (props .entry)) (now (work .entry))) f Argument t st n) ⌝ }
+    ensures { λ n. ⌜ ((tree goals : List ℕ) → Resumes (now (file .entry)) (rooms tree goals (now (props .entry)) (now (work .entry)))
+        (rooms tree goals (now (props .entry)) (now (work .entry))) f Argument t st n) ⌝ }
 {
     let k = f.term;
     let w = f.want;
@@ -107,7 +109,8 @@ fn object(file: &[u8], props: &[u8], work: &[u8], f: Rule, t: Sort, st: State) -
 
 pub fn concludes(tree: &mut [u8], f: Rule, b: Proposition, st: State) -> Next
     requires { ⌜ 16 * (f .start .records) + 16 ≤ length (now tree) ⌝ }
-    ensures { λ n. ⌜ ((l goals ps work : List ℕ) (t : Sort) → Resumes l (rooms (now (tree .entry)) goals ps work) (rooms (now (tree .exit)) goals ps work) f (Concludes b) t st n) ⌝ }
+    ensures { λ n. ⌜ ((l goals ps work : List ℕ) (t : Sort) → Resumes l (rooms (now (tree .entry)) goals ps work)
+        (rooms (now (tree .exit)) goals ps work) f (Concludes b) t st n) ⌝ }
 {
     by(tree, f, IMPL_ELIM, 2, Sort::Proposition(b), st)
 }
@@ -124,7 +127,8 @@ pub fn instance(
     requires { ⌜ Here (now file) (f .term .0) ⌝ }
     requires { ⌜ Room (now file) (now props) st × (body .0 < countOf (now file) st) ⌝ }
     requires { ⌜ 16 * (f .start .records) + 16 ≤ length (now tree) ⌝ }
-    ensures { λ n. ⌜ ((goals work : List ℕ) (t : Sort) → Resumes (now (file .entry)) (rooms (now (tree .entry)) goals (now (props .entry)) work) (rooms (now (tree .exit)) goals (now (props .exit)) work) f (Instance i body) t st n) ⌝ }
+    ensures { λ n. ⌜ ((goals work : List ℕ) (t : Sort) → Resumes (now (file .entry)) (rooms (now (tree .entry)) goals (now (props .entry)) work)
+        (rooms (now (tree .exit)) goals (now (props .exit)) work) f (Instance i body) t st n) ⌝ }
 {
     let count = count_of(file, st);
     let Made::At(m, end) = put_in(props, count, left_of(st), body, i) else {

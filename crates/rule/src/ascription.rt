@@ -29,7 +29,8 @@ pub fn check(file: &[u8], props: &mut [u8], work: &[u8], k: Term, wanted: Sort, 
     requires { ⌜ Begun (now file) (now props) (now work) (k .0) st ⌝ }
     requires { ⌜ TypeIn (countOf (now file) st) wanted ⌝ }
     requires { ⌜ termRecord (now file) (k .0) .kind ≡ 12 ⌝ }
-    ensures { λ n. ⌜ ((tree goals : List ℕ) → Begins (now (file .entry)) (rooms tree goals (now (props .entry)) (now (work .entry))) (rooms tree goals (now (props .exit)) (now (work .entry))) (k .0) (Check wanted) st n) ⌝ }
+    ensures { λ n. ⌜ ((tree goals : List ℕ) → Begins (now (file .entry)) (rooms tree goals (now (props .entry)) (now (work .entry)))
+        (rooms tree goals (now (props .exit)) (now (work .entry))) (k .0) (Check wanted) st n) ⌝ }
 {
     let r = term_record(file, k);
     let Annotation::Of(t) = annotation_of(r) else {
@@ -41,7 +42,7 @@ pub fn check(file: &[u8], props: &mut [u8], work: &[u8], k: Term, wanted: Sort, 
         Resolving::To(a, s) => {
             if is_alpha(compare_types(props, count_of(file, s), a, wanted)) {
                 let x = r.child1;
-                Next::Instead(x, w, s)
+                Next::Instead(x, wanted, s)
             } else {
                 Next::Refused(Refusal::at(15, k))
             }
@@ -52,7 +53,8 @@ pub fn check(file: &[u8], props: &mut [u8], work: &[u8], k: Term, wanted: Sort, 
 pub fn synthesize(file: &[u8], props: &mut [u8], work: &[u8], k: Term, st: State) -> Next
     requires { ⌜ Begun (now file) (now props) (now work) (k .0) st ⌝ }
     requires { ⌜ termRecord (now file) (k .0) .kind ≡ 12 ⌝ }
-    ensures { λ n. ⌜ ((tree goals : List ℕ) → Begins (now (file .entry)) (rooms tree goals (now (props .entry)) (now (work .entry))) (rooms tree goals (now (props .exit)) (now (work .entry))) (k .0) Synth st n) ⌝ }
+    ensures { λ n. ⌜ ((tree goals : List ℕ) → Begins (now (file .entry)) (rooms tree goals (now (props .entry)) (now (work .entry)))
+        (rooms tree goals (now (props .exit)) (now (work .entry))) (k .0) Synth st n) ⌝ }
 {
     let r = term_record(file, k);
     let Annotation::Of(t) = annotation_of(r) else {
@@ -62,7 +64,7 @@ pub fn synthesize(file: &[u8], props: &mut [u8], work: &[u8], k: Term, st: State
         Resolving::Refused(e) => Next::Refused(e),
         Resolving::To(a, s) => {
             let x = r.child1;
-            Next::Instead(x, Want::Check(a), s)
+            Next::Instead(x, a, s)
         }
     }
 }

@@ -58,7 +58,8 @@ pub fn left(file: &[u8], props: &[u8], work: &mut [u8], f: Rule, t: Sort, st: St
     requires { ⌜ Here (now file) (f .term .0) ⌝ }
     requires { ⌜ Room (now file) (now props) st × TypeIn (countOf (now file) st) t ⌝ }
     requires { ⌜ Fresh (now work) st ⌝ }
-    ensures { λ n. ⌜ ((tree goals : List ℕ) → Resumes (now (file .entry)) (rooms tree goals (now (props .entry)) (now (work .entry))) (rooms tree goals (now (props .entry)) (now (work .exit))) f CaseLeft t st n) ⌝ }
+    ensures { λ n. ⌜ ((tree goals : List ℕ) → Resumes (now (file .entry)) (rooms tree goals (now (props .entry)) (now (work .entry)))
+        (rooms tree goals (now (props .entry)) (now (work .exit))) f CaseLeft t st n) ⌝ }
 {
     let k = f.term;
     let w = f.want;
@@ -84,7 +85,8 @@ pub fn right(
 ) -> Next
     requires { ⌜ Here (now file) (f .term .0) ⌝ }
     requires { ⌜ Fresh (now work) st ⌝ }
-    ensures { λ n. ⌜ ((tree goals ps : List ℕ) → Resumes (now (file .entry)) (rooms tree goals ps (now (work .entry))) (rooms tree goals ps (now (work .exit))) f (CaseRight i b) t st n) ⌝ }
+    ensures { λ n. ⌜ ((tree goals ps : List ℕ) → Resumes (now (file .entry)) (rooms tree goals ps (now (work .entry)))
+        (rooms tree goals ps (now (work .exit))) f (CaseRight i b) t st n) ⌝ }
 {
     let k = f.term;
     let w = f.want;
@@ -109,7 +111,8 @@ pub fn end(
     requires { ⌜ Here (now file) (f .term .0) ⌝ }
     requires { ⌜ Room (now file) (now props) st × TypeIn (countOf (now file) st) t × TypeIn (countOf (now file) st) u ⌝ }
     requires { ⌜ 16 * (f .start .records) + 16 ≤ length (now tree) ⌝ }
-    ensures { λ n. ⌜ ((goals work : List ℕ) → Resumes (now (file .entry)) (rooms (now (tree .entry)) goals (now (props .entry)) work) (rooms (now (tree .exit)) goals (now (props .entry)) work) f (CaseEnd i j t) u st n) ⌝ }
+    ensures { λ n. ⌜ ((goals work : List ℕ) → Resumes (now (file .entry)) (rooms (now (tree .entry)) goals (now (props .entry)) work)
+        (rooms (now (tree .exit)) goals (now (props .entry)) work) f (CaseEnd i j t) u st n) ⌝ }
 {
     let k = f.term;
     let w = f.want;

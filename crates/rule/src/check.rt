@@ -1,12 +1,15 @@
 // A term held to a type, up to its first premise; and what was synthesized, held against what is wanted.
+// Ident, the projections and Application are synthesized first, and compared.
 ghost use mathlib.Core.Path.{_≡_};
-ghost use Rattle.layout.specs.File.{termRecord};
+ghost use Prim.Native.Nat.{_<_};
+ghost use Rattle.layout.specs.File.{terms, termRecord};
+ghost use Rattle.table.specs.Passing.{Counted};
 ghost use Rattle.prop.specs.Room.{TypeIn};
 ghost use Rattle.step.specs.declared.state.Want.«the-variants».{Check};
 ghost use Rattle.step.specs.Rooms.{countOf, rooms};
-ghost use mathlib.Core.Bool.{false};
+ghost use mathlib.Core.Bool.{true, false};
 ghost use Rattle.step.specs.Contract.{Ready, RanAs, synthesizes};
-ghost use Rattle.rule.specs.Going.{Begins, Settling};
+ghost use Rattle.rule.specs.Going.{Begins, Ended, «begun-as»};
 use super::abort;
 use super::ascription;
 use super::case;
@@ -34,11 +37,19 @@ use step::state::count_of;
 use step::state::inner;
 use step::state::term_record;
 
-// Ident, the projections and Application: they are synthesized and compared.
-pub fn compares(kind: u8) -> bool
+fn compares(kind: u8) -> bool
     ensures { λ b. ⌜ b ≡ synthesizes kind ⌝ }
 {
     (kind == 0) | ((kind == 2) | ((kind == 3) | (kind == 5)))
+}
+
+// How term k is begun, if this is wanted of it.
+pub fn begun_as(file: &[u8], k: Term, w: Want) -> Want
+    requires { ⌜ Counted (now file) × (k .0 < terms (now file)) ⌝ }
+    ensures { λ v. ⌜ v ≡ «begun-as» (termRecord (now (file .entry)) (k .0) .kind) w ⌝ }
+{
+    let r = term_record(file, k);
+    if compares(r.kind) { Want::Synth } else { w }
 }
 
 // Each of the other kinds by its rule.
@@ -55,7 +66,8 @@ pub fn begin(
     requires { ⌜ Ready (now file) (rooms (now tree) (now goals) (now props) (now work)) (k .0) st ⌝ }
     requires { ⌜ TypeIn (countOf (now file) st) wanted ⌝ }
     requires { ⌜ (synthesizes (termRecord (now file) (k .0) .kind) ≡ false) ⌝ }
-    ensures { λ n. ⌜ Begins (now (file .entry)) (rooms (now (tree .entry)) (now (goals .entry)) (now (props .entry)) (now (work .entry))) (rooms (now (tree .exit)) (now (goals .exit)) (now (props .exit)) (now (work .exit))) (k .0) (Check wanted) st n ⌝ }
+    ensures { λ n. ⌜ Begins (now (file .entry)) (rooms (now (tree .entry)) (now (goals .entry)) (now (props .entry)) (now (work .entry)))
+        (rooms (now (tree .exit)) (now (goals .exit)) (now (props .exit)) (now (work .exit))) (k .0) (Check wanted) st n ⌝ }
 {
     let r = term_record(file, k);
     let kind = r.kind;
@@ -74,21 +86,21 @@ pub fn begin(
 }
 
 // Equal types: the tree as it is. Alpha-equal: an AlphaEq above it. Else 14.
-pub fn settle(
+fn hold(
     file: &[u8],
     tree: &mut [u8],
     props: &[u8],
     k: Term,
     wanted: Sort,
     st: State,
-    found: Ran,
+    t: Sort,
+    s: State,
 ) -> Ran
-    requires { ⌜ Settling (now file) (now tree) (now props) (k .0) wanted st found ⌝ }
-    ensures { λ r. ⌜ ((c : Settling (now (file .entry)) (now (tree .entry)) (now (props .entry)) (k .0) wanted st found) → RanAs (now (file .entry)) (c .start) (rooms (now (tree .exit)) (c .goals) (now (props .entry)) (c .work)) (k .0) (Check wanted) st r) ⌝ }
+    requires { ⌜ Ended (now file) (now tree) (now props) (k .0) (Check wanted) st t s ⌝ }
+    requires { ⌜ synthesizes (termRecord (now file) (k .0) .kind) ≡ true ⌝ }
+    ensures { λ r. ⌜ ((c : Ended (now (file .entry)) (now (tree .entry)) (now (props .entry)) (k .0) (Check wanted) st t s)
+        → RanAs (now (file .entry)) (c .start) (rooms (now (tree .exit)) (c .goals) (now (props .entry)) (c .work)) (k .0) (Check wanted) st r) ⌝ }
 {
-    let Ran::Has(t, s) = found else {
-        return found;
-    };
     match compare_types(props, count_of(file, s), t, wanted) {
         Compared::Equal => Ran::Has(wanted, s),
         Compared::Alpha => {
@@ -98,5 +110,31 @@ pub fn settle(
             Ran::Has(wanted, inner(s))
         }
         Compared::Apart => Ran::Refused(Refusal::at(14, k)),
+    }
+}
+
+// The end of term k, whose rule is done.
+pub fn settle(
+    file: &[u8],
+    tree: &mut [u8],
+    props: &[u8],
+    k: Term,
+    w: Want,
+    st: State,
+    t: Sort,
+    s: State,
+) -> Ran
+    requires { ⌜ Ended (now file) (now tree) (now props) (k .0) w st t s ⌝ }
+    ensures { λ r. ⌜ ((c : Ended (now (file .entry)) (now (tree .entry)) (now (props .entry)) (k .0) w st t s)
+        → RanAs (now (file .entry)) (c .start) (rooms (now (tree .exit)) (c .goals) (now (props .entry)) (c .work)) (k .0) w st r) ⌝ }
+{
+    let Want::Check(wanted) = w else {
+        return Ran::Has(t, s);
+    };
+    let r = term_record(file, k);
+    if compares(r.kind) {
+        hold(file, tree, props, k, wanted, st, t, s)
+    } else {
+        Ran::Has(t, s)
     }
 }

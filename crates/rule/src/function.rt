@@ -50,7 +50,8 @@ pub fn check(
     requires { ⌜ Begun (now file) (now props) (now work) (k .0) st ⌝ }
     requires { ⌜ TypeIn (countOf (now file) st) wanted ⌝ }
     requires { ⌜ termRecord (now file) (k .0) .kind ≡ 4 ⌝ }
-    ensures { λ n. ⌜ ((tree goals : List ℕ) → Begins (now (file .entry)) (rooms tree goals (now (props .entry)) (now (work .entry))) (rooms tree goals (now (props .exit)) (now (work .exit))) (k .0) (Check wanted) st n) ⌝ }
+    ensures { λ n. ⌜ ((tree goals : List ℕ) → Begins (now (file .entry)) (rooms tree goals (now (props .entry)) (now (work .entry)))
+        (rooms tree goals (now (props .exit)) (now (work .exit))) (k .0) (Check wanted) st n) ⌝ }
 {
     let r = term_record(file, k);
     let x = r.name1;
@@ -84,7 +85,8 @@ pub fn check(
 
 pub fn closes(tree: &mut [u8], f: Rule, rule: u8, i: Serial, t: Sort, st: State) -> Next
     requires { ⌜ 16 * (f .start .records) + 16 ≤ length (now tree) ⌝ }
-    ensures { λ n. ⌜ ((l goals ps work : List ℕ) → Resumes l (rooms (now (tree .entry)) goals ps work) (rooms (now (tree .exit)) goals ps work) f (Closes rule i) t st n) ⌝ }
+    ensures { λ n. ⌜ ((l goals ps work : List ℕ) → Resumes l (rooms (now (tree .entry)) goals ps work) (rooms (now (tree .exit)) goals ps work) f
+        (Closes rule i) t st n) ⌝ }
 {
     let k = f.term;
     let w = f.want;
@@ -98,7 +100,8 @@ pub fn closes(tree: &mut [u8], f: Rule, rule: u8, i: Serial, t: Sort, st: State)
 pub fn synthesize(file: &[u8], props: &mut [u8], work: &mut [u8], k: Term, st: State) -> Next
     requires { ⌜ Begun (now file) (now props) (now work) (k .0) st ⌝ }
     requires { ⌜ termRecord (now file) (k .0) .kind ≡ 4 ⌝ }
-    ensures { λ n. ⌜ ((tree goals : List ℕ) → Begins (now (file .entry)) (rooms tree goals (now (props .entry)) (now (work .entry))) (rooms tree goals (now (props .exit)) (now (work .exit))) (k .0) Synth st n) ⌝ }
+    ensures { λ n. ⌜ ((tree goals : List ℕ) → Begins (now (file .entry)) (rooms tree goals (now (props .entry)) (now (work .entry)))
+        (rooms tree goals (now (props .exit)) (now (work .exit))) (k .0) Synth st n) ⌝ }
 {
     let r = term_record(file, k);
     let Annotation::Of(t) = annotation_of(r) else {
@@ -134,7 +137,8 @@ pub fn abstracts(
     requires { ⌜ Here (now file) (f .term .0) ⌝ }
     requires { ⌜ Room (now file) (now props) st × TypeIn (countOf (now file) st) a × TypeIn (countOf (now file) st) t ⌝ }
     requires { ⌜ 16 * (f .start .records) + 16 ≤ length (now tree) ⌝ }
-    ensures { λ n. ⌜ ((goals work : List ℕ) → Resumes (now (file .entry)) (rooms (now (tree .entry)) goals (now (props .entry)) work) (rooms (now (tree .exit)) goals (now (props .exit)) work) f (Abstracts i a) t st n) ⌝ }
+    ensures { λ n. ⌜ ((goals work : List ℕ) → Resumes (now (file .entry)) (rooms (now (tree .entry)) goals (now (props .entry)) work)
+        (rooms (now (tree .exit)) goals (now (props .exit)) work) f (Abstracts i a) t st n) ⌝ }
 {
     let k = f.term;
     let r = term_record(file, k);

@@ -25,7 +25,8 @@ pub fn synthesize(file: &[u8], tree: &mut [u8], work: &[u8], k: Term, st: State)
     requires { ⌜ Place (now tree) st ⌝ }
     requires { ⌜ 8 * (st .context) ≤ length (now work) ⌝ }
     requires { ⌜ termRecord (now file) (k .0) .kind ≡ 0 ⌝ }
-    ensures { λ n. ⌜ ((goals ps : List ℕ) → Begins (now (file .entry)) (rooms (now (tree .entry)) goals ps (now (work .entry))) (rooms (now (tree .exit)) goals ps (now (work .entry))) (k .0) Synth st n) ⌝ }
+    ensures { λ n. ⌜ ((goals ps : List ℕ) → Begins (now (file .entry)) (rooms (now (tree .entry)) goals ps (now (work .entry)))
+        (rooms (now (tree .exit)) goals ps (now (work .entry))) (k .0) Synth st n) ⌝ }
 {
     let r = term_record(file, k);
     let x = r.name1;

@@ -51,7 +51,8 @@ pub fn body(file: &[u8], props: &mut [u8], work: &mut [u8], f: Rule, t: Sort, st
     requires { ⌜ Here (now file) (f .term .0) ⌝ }
     requires { ⌜ Room (now file) (now props) st × TypeIn (countOf (now file) st) t ⌝ }
     requires { ⌜ FreshTwo (now work) st ⌝ }
-    ensures { λ n. ⌜ ((tree goals : List ℕ) → Resumes (now (file .entry)) (rooms tree goals (now (props .entry)) (now (work .entry))) (rooms tree goals (now (props .exit)) (now (work .exit))) f LetBody t st n) ⌝ }
+    ensures { λ n. ⌜ ((tree goals : List ℕ) → Resumes (now (file .entry)) (rooms tree goals (now (props .entry)) (now (work .entry)))
+        (rooms tree goals (now (props .exit)) (now (work .exit))) f LetBody t st n) ⌝ }
 {
     let k = f.term;
     let w = f.want;
@@ -80,7 +81,8 @@ pub fn end(
     requires { ⌜ Here (now file) (f .term .0) ⌝ }
     requires { ⌜ Room (now file) (now props) st × TypeIn (countOf (now file) st) t ⌝ }
     requires { ⌜ 16 * (f .start .records) + 16 ≤ length (now tree) ⌝ }
-    ensures { λ n. ⌜ ((goals work : List ℕ) → Resumes (now (file .entry)) (rooms (now (tree .entry)) goals (now (props .entry)) work) (rooms (now (tree .exit)) goals (now (props .entry)) work) f (LetEnd i j) t st n) ⌝ }
+    ensures { λ n. ⌜ ((goals work : List ℕ) → Resumes (now (file .entry)) (rooms (now (tree .entry)) goals (now (props .entry)) work)
+        (rooms (now (tree .exit)) goals (now (props .entry)) work) f (LetEnd i j) t st n) ⌝ }
 {
     let k = f.term;
     let w = f.want;

@@ -53,10 +53,10 @@ pub enum Rest {
     Aborts,
 }
 
-// What a rule comes to: it asks for a premise, and this is then left of it; a subterm is run in its place; it is done; it is refused.
+// What a rule comes to: it asks for a premise, and this is then left of it; a subterm is held to a type in its place; it is done; it is refused.
 pub enum Next {
     Ask(Rule, Rest, Term, Want, State),
-    Instead(Term, Want, State),
+    Instead(Term, Sort, State),
     Done(Sort, State),
     Refused(Refusal),
 }
@@ -64,7 +64,8 @@ pub enum Next {
 // The end of a rule without serials of its own: its node, of what it answers, above so many premises.
 pub fn by(tree: &mut [u8], f: Rule, rule: u8, premises: u16, t: Sort, st: State) -> Next
     requires { ⌜ 16 * (f .start .records) + 16 ≤ length (now tree) ⌝ }
-    ensures { λ n. ⌜ ((l goals ps work : List ℕ) → Resumes l (rooms (now (tree .entry)) goals ps work) (rooms (now (tree .exit)) goals ps work) f (By rule premises) t st n) ⌝ }
+    ensures { λ n. ⌜ ((l goals ps work : List ℕ) → Resumes l (rooms (now (tree .entry)) goals ps work) (rooms (now (tree .exit)) goals ps work) f
+        (By rule premises) t st n) ⌝ }
 {
     let k = f.term;
     let w = f.want;

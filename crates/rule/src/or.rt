@@ -28,7 +28,8 @@ pub fn check(file: &[u8], props: &[u8], k: Term, wanted: Sort, st: State) -> Nex
     requires { ⌜ Here (now file) (k .0) × (st .records < largest) ⌝ }
     requires { ⌜ Room (now file) (now props) st × TypeIn (countOf (now file) st) wanted ⌝ }
     requires { ⌜ (6 < termRecord (now file) (k .0) .kind) × (termRecord (now file) (k .0) .kind < 9) ⌝ }
-    ensures { λ n. ⌜ ((tree goals work : List ℕ) → Begins (now (file .entry)) (rooms tree goals (now (props .entry)) work) (rooms tree goals (now (props .entry)) work) (k .0) (Check wanted) st n) ⌝ }
+    ensures { λ n. ⌜ ((tree goals work : List ℕ) → Begins (now (file .entry)) (rooms tree goals (now (props .entry)) work)
+        (rooms tree goals (now (props .entry)) work) (k .0) (Check wanted) st n) ⌝ }
 {
     let Parts::Both(a, b) = split(props, count_of(file, st), wanted, Link::Or) else {
         return Next::Refused(Refusal::at(11, k));

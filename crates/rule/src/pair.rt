@@ -48,7 +48,8 @@ pub fn check(file: &[u8], props: &mut [u8], work: &[u8], k: Term, wanted: Sort, 
     requires { ⌜ Room (now file) (now props) st × TypeIn (countOf (now file) st) wanted ⌝ }
     requires { ⌜ 8 * (st .context) ≤ length (now work) ⌝ }
     requires { ⌜ termRecord (now file) (k .0) .kind ≡ 1 ⌝ }
-    ensures { λ n. ⌜ ((tree goals : List ℕ) → Begins (now (file .entry)) (rooms tree goals (now (props .entry)) (now (work .entry))) (rooms tree goals (now (props .exit)) (now (work .entry))) (k .0) (Check wanted) st n) ⌝ }
+    ensures { λ n. ⌜ ((tree goals : List ℕ) → Begins (now (file .entry)) (rooms tree goals (now (props .entry)) (now (work .entry)))
+        (rooms tree goals (now (props .exit)) (now (work .entry))) (k .0) (Check wanted) st n) ⌝ }
 {
     let count = count_of(file, st);
     let Parts::Both(a, b) = split(props, count, wanted, Link::And) else {
@@ -76,7 +77,8 @@ fn exists(file: &[u8], props: &mut [u8], work: &[u8], k: Term, wanted: Sort, st:
     requires { ⌜ 8 * (st .context) ≤ length (now work) ⌝ }
     requires { ⌜ termRecord (now file) (k .0) .kind ≡ 1 ⌝ }
     requires { ⌜ Unsplit and (now props) wanted ⌝ }
-    ensures { λ n. ⌜ ((tree goals : List ℕ) → Begins (now (file .entry)) (rooms tree goals (now (props .entry)) (now (work .entry))) (rooms tree goals (now (props .exit)) (now (work .entry))) (k .0) (Check wanted) st n) ⌝ }
+    ensures { λ n. ⌜ ((tree goals : List ℕ) → Begins (now (file .entry)) (rooms tree goals (now (props .entry)) (now (work .entry)))
+        (rooms tree goals (now (props .exit)) (now (work .entry))) (k .0) (Check wanted) st n) ⌝ }
 {
     let count = count_of(file, st);
     let Quantified::Over { datatype, body } = over(props, count, wanted, Quant::Ex) else {
@@ -161,7 +163,8 @@ pub fn both(
     requires { ⌜ Here (now file) (f .term .0) ⌝ }
     requires { ⌜ Room (now file) (now props) st × TypeIn (countOf (now file) st) t × TypeIn (countOf (now file) st) u ⌝ }
     requires { ⌜ 16 * (f .start .records) + 16 ≤ length (now tree) ⌝ }
-    ensures { λ n. ⌜ ((goals work : List ℕ) → Resumes (now (file .entry)) (rooms (now (tree .entry)) goals (now (props .entry)) work) (rooms (now (tree .exit)) goals (now (props .exit)) work) f (Both t) u st n) ⌝ }
+    ensures { λ n. ⌜ ((goals work : List ℕ) → Resumes (now (file .entry)) (rooms (now (tree .entry)) goals (now (props .entry)) work)
+        (rooms (now (tree .exit)) goals (now (props .exit)) work) f (Both t) u st n) ⌝ }
 {
     let k = f.term;
     let Sort::Proposition(b) = u else {

@@ -46,7 +46,8 @@ pub fn part(file: &[u8], tree: &mut [u8], props: &[u8], f: Rule, t: Sort, st: St
     requires { ⌜ Here (now file) (f .term .0) ⌝ }
     requires { ⌜ Room (now file) (now props) st × TypeIn (countOf (now file) st) t ⌝ }
     requires { ⌜ 16 * (f .start .records) + 16 ≤ length (now tree) ⌝ }
-    ensures { λ n. ⌜ ((goals work : List ℕ) → Resumes (now (file .entry)) (rooms (now (tree .entry)) goals (now (props .entry)) work) (rooms (now (tree .exit)) goals (now (props .entry)) work) f Part t st n) ⌝ }
+    ensures { λ n. ⌜ ((goals work : List ℕ) → Resumes (now (file .entry)) (rooms (now (tree .entry)) goals (now (props .entry)) work)
+        (rooms (now (tree .exit)) goals (now (props .entry)) work) f Part t st n) ⌝ }
 {
     let k = f.term;
     let Parts::Both(a, b) = split(props, count_of(file, st), t, Link::And) else {

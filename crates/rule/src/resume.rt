@@ -36,7 +36,8 @@ pub fn resume(
     requires { ⌜ Held (countOf (now file) st) (now work) st rest ⌝ }
     requires { ⌜ Inside (now file) (f .term .0) (after (termRecord (now file) (f .term .0)) rest) ⌝ }
     requires { ⌜ 16 * (f .start .records) + 16 ≤ length (now tree) ⌝ }
-    ensures { λ n. ⌜ ((goals : List ℕ) → Resumes (now (file .entry)) (rooms (now (tree .entry)) goals (now (props .entry)) (now (work .entry))) (rooms (now (tree .exit)) goals (now (props .exit)) (now (work .exit))) f rest t st n) ⌝ }
+    ensures { λ n. ⌜ ((goals : List ℕ) → Resumes (now (file .entry)) (rooms (now (tree .entry)) goals (now (props .entry)) (now (work .entry)))
+        (rooms (now (tree .exit)) goals (now (props .exit)) (now (work .exit))) f rest t st n) ⌝ }
 {
     match rest {
         Rest::By(rule, premises) => by(tree, f, rule, premises, t, st),

@@ -35,7 +35,9 @@ pub fn check(
     requires { ⌜ Place (now tree) st ⌝ }
     requires { ⌜ (8 * (st .goals) + 8 ≤ length (now goals)) × (st .goals < largest) ⌝ }
     requires { ⌜ («run-room» ≤ length (now work)) × (st .context ≤ «most-entries») ⌝ }
-    ensures { λ n. ⌜ ((l ps : List ℕ) → TypeIn (countOf l st) wanted → termRecord l (k .0) .kind ≡ 13 → Begins l (rooms (now (tree .entry)) (now (goals .entry)) ps (now (work .entry))) (rooms (now (tree .exit)) (now (goals .exit)) ps (now (work .exit))) (k .0) (Check wanted) st n) ⌝ }
+    ensures { λ n. ⌜ ((l ps : List ℕ) → TypeIn (countOf l st) wanted → termRecord l (k .0) .kind ≡ 13 → Begins l
+        (rooms (now (tree .entry)) (now (goals .entry)) ps (now (work .entry))) (rooms (now (tree .exit)) (now (goals .exit)) ps (now (work .exit)))
+        (k .0) (Check wanted) st n) ⌝ }
 {
     let leaf = node(SORRY, k, wanted, Serial::NONE, Serial::NONE, 0);
     put_node(tree, st.records, leaf);

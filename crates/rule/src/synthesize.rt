@@ -30,7 +30,8 @@ pub fn begin(
     st: State,
 ) -> Next
     requires { ⌜ ((goals : List ℕ) × Ready (now file) (rooms (now tree) goals (now props) (now work)) (k .0) st) ⌝ }
-    ensures { λ n. ⌜ ((goals : List ℕ) → Begins (now (file .entry)) (rooms (now (tree .entry)) goals (now (props .entry)) (now (work .entry))) (rooms (now (tree .exit)) goals (now (props .exit)) (now (work .exit))) (k .0) Synth st n) ⌝ }
+    ensures { λ n. ⌜ ((goals : List ℕ) → Begins (now (file .entry)) (rooms (now (tree .entry)) goals (now (props .entry)) (now (work .entry)))
+        (rooms (now (tree .exit)) goals (now (props .exit)) (now (work .exit))) (k .0) Synth st n) ⌝ }
 {
     let r = term_record(file, k);
     let kind = r.kind;

@@ -29,7 +29,8 @@ pub fn check(file: &[u8], tree: &mut [u8], props: &[u8], k: Term, wanted: Sort, 
     requires { ⌜ Room (now file) (now props) st × TypeIn (countOf (now file) st) wanted ⌝ }
     requires { ⌜ Place (now tree) st ⌝ }
     requires { ⌜ termRecord (now file) (k .0) .kind ≡ 11 ⌝ }
-    ensures { λ n. ⌜ ((goals work : List ℕ) → Begins (now (file .entry)) (rooms (now (tree .entry)) goals (now (props .entry)) work) (rooms (now (tree .exit)) goals (now (props .entry)) work) (k .0) (Check wanted) st n) ⌝ }
+    ensures { λ n. ⌜ ((goals work : List ℕ) → Begins (now (file .entry)) (rooms (now (tree .entry)) goals (now (props .entry)) work)
+        (rooms (now (tree .exit)) goals (now (props .entry)) work) (k .0) (Check wanted) st n) ⌝ }
 {
     if is_truth(props, count_of(file, st), wanted) {
         let top = node(TRUE_INTRO, k, wanted, Serial::NONE, Serial::NONE, 0);
@@ -45,7 +46,8 @@ pub fn synthesize(file: &[u8], tree: &mut [u8], props: &mut [u8], k: Term, st: S
     requires { ⌜ Room (now file) (now props) st ⌝ }
     requires { ⌜ Place (now tree) st ⌝ }
     requires { ⌜ termRecord (now file) (k .0) .kind ≡ 11 ⌝ }
-    ensures { λ n. ⌜ ((goals work : List ℕ) → Begins (now (file .entry)) (rooms (now (tree .entry)) goals (now (props .entry)) work) (rooms (now (tree .exit)) goals (now (props .exit)) work) (k .0) Synth st n) ⌝ }
+    ensures { λ n. ⌜ ((goals work : List ℕ) → Begins (now (file .entry)) (rooms (now (tree .entry)) goals (now (props .entry)) work)
+        (rooms (now (tree .exit)) goals (now (props .exit)) work) (k .0) Synth st n) ⌝ }
 {
     let count = count_of(file, st);
     let Made::At(m, end) = make_constant(props, count, left_of(st), true) else {

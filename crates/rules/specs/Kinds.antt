@@ -12,7 +12,8 @@ use Rattle.rules.specs.State.{St, limit}
 use Rattle.rules.specs.Tree.{Trees, end, gap, node, _⊕_}
 use Rattle.rules.specs.Step.{Want, synth, check, Out, ok, Answer}
 use Rattle.rules.specs.Rules.{run}
-use Rattle.rules.specs.Cases.{Row, _gives_, begin, ident, unit, fst, snd, inl, inr, abort, fun, ascribe, pair, app, let-in, case, _⇒_, both, either, every, exist, A, B, D, x, y, g, z}
+use Rattle.rules.specs.Cases.{Row, _gives_, begin, ident, unit, fst, snd, inl, inr, abort, fun, ascribe, pair, app, let-in, case, _⇒_, both}
+use Rattle.rules.specs.Cases.{either, every, exist, A, B, D, x, y, g, z}
 
 abbrev pub P : Param → Prop
 P v = atom made 2 (v ∷ [])
@@ -120,9 +121,11 @@ kinds =
     ∷ (synthesized (ident 0 a) gives answers (prop A) 11 0 (uses 0 2 (prop A)))
     ∷ (synthesized (ident 0 x) gives answers (datatype D) 11 0 (uses 0 0 (datatype D)))
     -- Pair: And; Exists, which makes its body with the witness put in; synthesized, which makes an And
-    ∷ (checked (pair 0 (ident 1 a) (ident 2 b)) (prop (both A B)) gives answers (prop (both A B)) 11 0 (by 2 0 (prop (both A B)) [] (uses 1 2 (prop A) ⊕ uses 2 3 (prop B))))
+    ∷ (checked (pair 0 (ident 1 a) (ident 2 b)) (prop (both A B)) gives answers (prop (both A B)) 11 0
+    (by 2 0 (prop (both A B)) [] (uses 1 2 (prop A) ⊕ uses 2 3 (prop B))))
     ∷ (checked (pair 0 (ident 1 x) (app 2 (ident 3 g) (ident 4 x))) (prop some-x)
-    gives answers (prop some-x) 11 2 (by 13 0 (prop some-x) [] (uses 1 0 (datatype D) ⊕ by 12 2 (prop (P (ser 0))) [] (uses 3 7 (prop all-x) ⊕ uses 4 0 (datatype D)))))
+    gives answers (prop some-x) 11 2 (by 13 0 (prop some-x) [] (uses 1 0 (datatype D)
+    ⊕ by 12 2 (prop (P (ser 0))) [] (uses 3 7 (prop all-x) ⊕ uses 4 0 (datatype D)))))
     ∷ (synthesized (pair 0 (ident 1 a) (ident 2 b)) gives answers (prop (both A B)) 11 1 (by 2 0 (prop (both A B)) [] (uses 1 2 (prop A) ⊕ uses 2 3 (prop B))))
     -- ProjectFst, ProjectSnd
     ∷ (checked (fst 0 (ident 1 c)) (prop A) gives answers (prop A) 11 0 (by 3 0 (prop A) [] (uses 1 4 (prop (both A B)))))
@@ -144,11 +147,14 @@ kinds =
     -- Application: Impl; ForAll, which makes its body with the argument put in
     ∷ (checked (app 0 (ident 1 f) (ident 2 a)) (prop B) gives answers (prop B) 11 0 (by 6 0 (prop B) [] (uses 1 6 (prop (A ⇒ B)) ⊕ uses 2 2 (prop A))))
     ∷ (synthesized (app 0 (ident 1 f) (ident 2 a)) gives answers (prop B) 11 0 (by 6 0 (prop B) [] (uses 1 6 (prop (A ⇒ B)) ⊕ uses 2 2 (prop A))))
-    ∷ (synthesized (app 0 (ident 1 g) (ident 2 x)) gives answers (prop (P (ser 0))) 11 1 (by 12 0 (prop (P (ser 0))) [] (uses 1 7 (prop all-x) ⊕ uses 2 0 (datatype D))))
+    ∷ (synthesized (app 0 (ident 1 g) (ident 2 x)) gives answers (prop (P (ser 0))) 11 1
+    (by 12 0 (prop (P (ser 0))) [] (uses 1 7 (prop all-x) ⊕ uses 2 0 (datatype D))))
     -- LetIn: the witness, then what is known of it; synthesized, the type may hold the second serial
     ∷ (checked (let-in 0 y z (ident 1 e) (pair 2 (ident 3 y) (ident 4 z))) (prop some-x)
-    gives answers (prop some-x) 13 2 (by 14 0 (prop some-x) (11 ∷ 12 ∷ []) (uses 1 9 (prop some-x) ⊕ by 13 2 (prop some-x) [] (uses 3 11 (datatype D) ⊕ uses 4 12 (prop (P (ser 11)))))))
-    ∷ (synthesized (let-in 0 y z (ident 1 e) (ident 2 a)) gives answers (prop A) 13 1 (by 14 0 (prop A) (11 ∷ 12 ∷ []) (uses 1 9 (prop some-x) ⊕ uses 2 2 (prop A))))
+    gives answers (prop some-x) 13 2 (by 14 0 (prop some-x) (11 ∷ 12 ∷ []) (uses 1 9 (prop some-x)
+    ⊕ by 13 2 (prop some-x) [] (uses 3 11 (datatype D) ⊕ uses 4 12 (prop (P (ser 11)))))))
+    ∷ (synthesized (let-in 0 y z (ident 1 e) (ident 2 a)) gives answers (prop A) 13 1
+    (by 14 0 (prop A) (11 ∷ 12 ∷ []) (uses 1 9 (prop some-x) ⊕ uses 2 2 (prop A))))
     ∷ (synthesized (let-in 0 y z (ident 1 e) (fun 2 z (some (prop (P (free z)))) (ident 3 a)))
     gives answers (prop (P (ser 12) ⇒ A)) 14 3
     (by 14 0 (prop (P (ser 12) ⇒ A)) (11 ∷ 12 ∷ []) (uses 1 9 (prop some-x) ⊕ by 5 2 (prop (P (ser 12) ⇒ A)) (13 ∷ []) (uses 3 2 (prop A)))))
@@ -158,10 +164,12 @@ kinds =
     -- Case: a serial before each arm; synthesized, it concludes the left arm's wording and answers the right's
     ∷ (checked (case 0 y z (ident 1 o) (inr 2 (ident 3 y)) (inl 4 (ident 5 z))) (prop (either B A))
     gives answers (prop (either B A)) 13 0
-    (by 9 0 (prop (either B A)) (11 ∷ 12 ∷ []) (uses 1 5 (prop (either A B)) ⊕ by 8 2 (prop (either B A)) [] (uses 3 11 (prop A)) ⊕ by 7 4 (prop (either B A)) [] (uses 5 12 (prop B)))))
+    (by 9 0 (prop (either B A)) (11 ∷ 12 ∷ []) (uses 1 5 (prop (either A B)) ⊕ by 8 2 (prop (either B A)) [] (uses 3 11 (prop A))
+    ⊕ by 7 4 (prop (either B A)) [] (uses 5 12 (prop B)))))
     ∷ (checked (case 0 y z (ident 1 o) (fun 2 y none (ident 3 y)) (fun 4 z none (ident 5 z))) (prop (A ⇒ A))
     gives answers (prop (A ⇒ A)) 15 0
-    (by 9 0 (prop (A ⇒ A)) (11 ∷ 13 ∷ []) (uses 1 5 (prop (either A B)) ⊕ by 5 2 (prop (A ⇒ A)) (12 ∷ []) (uses 3 12 (prop A)) ⊕ by 5 4 (prop (A ⇒ A)) (14 ∷ []) (uses 5 14 (prop A)))))
+    (by 9 0 (prop (A ⇒ A)) (11 ∷ 13 ∷ []) (uses 1 5 (prop (either A B)) ⊕ by 5 2 (prop (A ⇒ A)) (12 ∷ []) (uses 3 12 (prop A))
+    ⊕ by 5 4 (prop (A ⇒ A)) (14 ∷ []) (uses 5 14 (prop A)))))
     ∷ (synthesized (case 0 y z (ident 1 o) (ident 2 g) (ident 3 g′))
     gives answers (prop all-y) 13 0 (by 9 0 (prop all-x) (11 ∷ 12 ∷ []) (uses 1 5 (prop (either A B)) ⊕ uses 2 7 (prop all-x) ⊕ uses 3 8 (prop all-y))))
     -- Abort makes its False; the limit may be reached

@@ -6,7 +6,8 @@ use mathlib.Core.Option.{none, some}
 use Rattle.rules.specs.Prop.{free, bound, made, atom, prop, datatype}
 use Rattle.rules.specs.Term.{sorry}
 use Rattle.rules.specs.Step.{synth, check, Out, refused, Answer}
-use Rattle.rules.specs.Cases.{Row, _gives_, ident, unit, fst, snd, inl, inr, abort, fun, ascribe, pair, app, let-in, case, _⇒_, both, either, every, A, B, D, x, y, g, z}
+use Rattle.rules.specs.Cases.{Row, _gives_, ident, unit, fst, snd, inl, inr, abort, fun, ascribe, pair, app, let-in, case, _⇒_, both, either}
+use Rattle.rules.specs.Cases.{every, A, B, D, x, y, g, z}
 use Rattle.rules.specs.Kinds.{P, False, all-x, some-x, E, w, a, b, c, o, f, e, n, u, checked, synthesized, with-room}
 
 unfoldable pub refusals : List (Row (Out Answer))

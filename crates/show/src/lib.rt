@@ -2,6 +2,7 @@
 ghost use mathlib.Core.Path.{_≡_};
 ghost use Prim.Native.Nat.{_<_};
 use libc::STDOUT_FILENO;
+use numbers::refusal::Refusal;
 use table::Verdict;
 
 pub mod arguments;
@@ -38,15 +39,15 @@ pub fn heading(count: u64) {
 }
 
 // `refused` with the number and the place. The line's end is left to the caller.
-pub fn refusal(n: u8, place: u16) {
+pub fn refusal(e: Refusal) {
     text(b"refused");
-    spaced(n as u16);
-    spaced(place);
+    spaced(e.number as u16);
+    spaced(e.place);
 }
 
 // The same as a line.
-pub fn refused(n: u8, place: u16) {
-    refusal(n, place);
+pub fn refused(e: Refusal) {
+    refusal(e);
     text(b"\n");
 }
 
@@ -54,6 +55,6 @@ pub fn refused(n: u8, place: u16) {
 pub fn answer(v: Verdict) {
     match v {
         Verdict::Passes => text(b"passes\n"),
-        Verdict::Refused(n, place) => refused(n, place),
+        Verdict::Refused(e) => refused(e),
     }
 }

@@ -71,7 +71,7 @@ nodes-some (triple p k a b c) = omega arith
 nodes-some (sorry p) = omega arith
 
 pub leaving-same : (s : State) (n : ℕ) → s .context ≡ n → s ≡ leaving s n
-leaving-same s n e i = record { records = s .records; goals = s .goals; serials = s .serials; made = s .made; context = e i }
+leaving-same s n e i = record { records = s .records; goals = s .goals; serials = s .serials; made = s .made; context = e i; asked = s .asked }
 
 -- THE BEGINNING
 pub doing-start : {l : List ℕ} {R : Rooms} {k : ℕ} {w : Mode} {st : State} {a : Arity} (q : Prog a) (ks : Kids a) → Ready l R k st → runOf l R k w st ≡ rest w end (obey q ks (stOf st)) → Doing l R k w st R (inner st) q ks 0 0 0
@@ -216,6 +216,7 @@ module _ {l : List ℕ} {R₀ : Rooms} {k : ℕ} {w : Mode} {st₀ : State} {R :
           records = omega (arith, d .left .records);
           goals = omega (arith, d .left .goals);
           context = d .left .context;
+          asked = d .left .asked;
           trees = (
             record {
               typ = T;
@@ -234,7 +235,6 @@ module _ {l : List ℕ} {R₀ : Rooms} {k : ℕ} {w : Mode} {st₀ : State} {R :
                 tree = λ i h. put .others i (omega arith) ∙ f .tree i (omega arith);
                 goals = f .goals;
                 work = f .work;
-                asks = f .asks;
                 picture = f .picture;
                 props-long = f .props-long;
                 tree-long = put .size ∙ f .tree-long;

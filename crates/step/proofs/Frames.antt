@@ -21,10 +21,10 @@ use Rattle.step.specs.Contract.{Grown, Left}
 use Rattle.step.proofs.Pictures.{pictures-kept, pictures-beside}
 
 -- GROWN
-pub entries-kept : {R R' : Rooms} {c d r g n : ℕ} (f : Grown R R' c d r g n) (m : ℕ) → m ≤ n → Entries (R .work) m c → Entries (R' .work) m d
+pub entries-kept : {R R' : Rooms} {c d r g n a : ℕ} (f : Grown R R' c d r g n a) (m : ℕ) → m ≤ n → Entries (R .work) m c → Entries (R' .work) m d
 entries-kept {R = R} {c = c} {d = d} f m h e i k = subst⁻¹ (λ e. TypeIn d (e .typ)) (f .work i (omega arith)) (type-more c d (entryAt (R .work) i .typ) (f .more) (e i k))
 
-module _ (l : List ℕ) {R R' : Rooms} {c d r g n : ℕ} (ok : Arena (R .props) c) (f : Grown R R' c d r g n) where
+module _ (l : List ℕ) {R R' : Rooms} {c d r g n a : ℕ} (ok : Arena (R .props) c) (f : Grown R R' c d r g n a) where
   pub type-kept : (T : Sort) → TypeIn c T → reads l (R' .props) T ≡ reads l (R .props) T
   type-kept T h = type-same (R' .props) ok (f .props) (props l) T h
 
@@ -45,7 +45,7 @@ module _ (l : List ℕ) {R R' : Rooms} {c d r g n : ℕ} (ok : Arena (R .props) 
         long = omega (arith, x .long, f .props-long);
       }
 
-pub grown-none : {R : Rooms} {c r g n : ℕ} → Arena (R .props) c → Grown R R c c r g n
+pub grown-none : {R : Rooms} {c r g n a : ℕ} → Arena (R .props) c → Grown R R c c r g n a
 grown-none ok =
     record {
       arena = ok;
@@ -54,7 +54,6 @@ grown-none ok =
       tree = λ m h. refl;
       goals = λ m h. refl;
       work = λ m h. refl;
-      asks = refl;
       picture = λ k i h. refl;
       props-long = refl;
       tree-long = refl;
@@ -62,8 +61,8 @@ grown-none ok =
       work-long = refl;
     }
 
-pub grown-trans : {R R' R'' : Rooms} {c d e r s g h n m : ℕ} → Grown R R' c d r g n → Grown R' R'' d e s h m → r ≤ s → g ≤ h → n ≤ m → Grown R R'' c e r g n
-grown-trans f k rs gh nm =
+pub grown-trans : {R R' R'' : Rooms} {c d e r s g h n m a b : ℕ} → Grown R R' c d r g n a → Grown R' R'' d e s h m b → r ≤ s → g ≤ h → n ≤ m → b ≡ a → Grown R R'' c e r g n a
+grown-trans f k rs gh nm ba =
     let up = f .more in
     record {
       arena = k .arena;
@@ -72,8 +71,7 @@ grown-trans f k rs gh nm =
       tree = λ i l. k .tree i (omega arith) ∙ f .tree i l;
       goals = λ i l. k .goals i (omega arith) ∙ f .goals i l;
       work = λ i l. k .work i (omega arith) ∙ f .work i l;
-      asks = k .asks ∙ f .asks;
-      picture = λ a i l. k .picture (omega (arith, f .asks)) i l ∙ f .picture a i l;
+      picture = λ p i l. k .picture (omega arith) i l ∙ f .picture p i l;
       props-long = k .props-long ∙ f .props-long;
       tree-long = k .tree-long ∙ f .tree-long;
       goals-long = k .goals-long ∙ f .goals-long;
@@ -131,7 +129,7 @@ trees-beside l R c n m (node nd ps ts) us h k = (
 -- LEFT
 pub left-none : {l : List ℕ} {R : Rooms} {st : State} → Arena (R .props) (countOf l st) → Left l R R st st end
 unfolding TreesAre PicturesAre records holes
-left-none ok = record { records = omega arith; goals = omega arith; context = refl; trees = tt; pictures = tt; grown = grown-none ok }
+left-none ok = record { records = omega arith; goals = omega arith; context = refl; asked = refl; trees = tt; pictures = tt; grown = grown-none ok }
 
 -- what one part leaves, then another
 pub left-trans : {l : List ℕ} {R R₁ R₂ : Rooms} {st s₁ s₂ : State} {ts us : Trees} → Left l R R₁ st s₁ ts → Left l R₁ R₂ s₁ s₂ us → Left l R R₂ st s₂ (ts ⊕ us)
@@ -139,19 +137,21 @@ left-trans {l} {R} {R₁} {R₂} {st} {s₁} {s₂} {ts} {us} a b =
     let er = a .records in
     let eg = a .goals in
     let ec = a .context in
+    let ea = a .asked in
     record {
       records = omega (arith, a .records, b .records, records-beside ts us);
       goals = omega (arith, a .goals, b .goals, holes-beside ts us);
       context = b .context ∙ a .context;
+      asked = b .asked ∙ a .asked;
       trees =
           trees-beside l R₂ (countOf l s₂) (st .records) (st .goals) ts us
           (trees-kept l R₁ R₂ (a .grown .arena) (b .grown .props) (b .grown .more) (st .records) (st .goals) ts (λ i lo hi. b .grown .tree i (omega arith)) (λ i lo hi. b .grown .goals i (omega arith)) (a .trees))
           (subst₂ (λ (i j : ℕ). TreesAre l R₂ (countOf l s₂) i j us) er eg (b .trees));
       pictures =
-          pictures-beside l (R₂ .props) (R₂ .work) (countOf l s₂) (st .goals) ts us
-          (pictures-kept l (R₁ .props) (R₂ .props) (R₁ .work) (R₂ .work) (a .grown .arena) (b .grown .props) (b .grown .more) (b .grown .asks) (st .goals) ts (λ k. b .grown .picture (omega arith)) (a .pictures))
-          (subst (λ (j : ℕ). PicturesAre l (R₂ .props) (R₂ .work) (countOf l s₂) j us) eg (b .pictures));
-      grown = grown-trans (a .grown) (b .grown) (omega arith) (omega arith) (omega arith);
+          pictures-beside l (R₂ .props) (R₂ .work) (st .asked) (countOf l s₂) (st .goals) ts us
+          (pictures-kept l (R₁ .props) (R₂ .props) (R₁ .work) (R₂ .work) (a .grown .arena) (b .grown .props) (b .grown .more) (st .asked) (st .goals) ts (λ k. b .grown .picture (omega arith)) (a .pictures))
+          (subst₂ (λ (i j : ℕ). PicturesAre l (R₂ .props) (R₂ .work) i (countOf l s₂) j us) ea eg (b .pictures));
+      grown = grown-trans (a .grown) (b .grown) (omega arith) (omega arith) (omega arith) ea;
     }
 
 -- a part that ran with more entries leaves the same with fewer
@@ -161,6 +161,7 @@ left-leave n h a =
       records = a .records;
       goals = a .goals;
       context = refl;
+      asked = a .asked;
       trees = a .trees;
       pictures = a .pictures;
       grown =
@@ -171,7 +172,6 @@ left-leave n h a =
             tree = a .grown .tree;
             goals = a .grown .goals;
             work = λ i k. a .grown .work i (omega arith);
-            asks = a .grown .asks;
             picture = a .grown .picture;
             props-long = a .grown .props-long;
             tree-long = a .grown .tree-long;

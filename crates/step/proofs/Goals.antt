@@ -21,7 +21,6 @@ use Rattle.step.specs.Rooms.{Rooms, Table, Loaded, reads, countOf, most-
 use Rattle.step.specs.Trees.{goalAt, TreesAre}
 use Rattle.step.specs.Picture.{picturedState, picturedType, picturedAt, picturedCtx, PictureIs, StartsAt}
 use Rattle.step.specs.Contract.{Ready}
-use Rattle.step.proofs.Starts.{nothing}
 
 -- A GOAL'S NUMBER is below the number of gaps
 pub few-goals : {g : Gap} {ts : Trees} (p : At g ts) → length (before p) < holes ts

@@ -15,7 +15,7 @@ use Rattle.context.proofs.Laws.{entries-kept}
 use Rattle.table.specs.Reading.{termAt}
 use Rattle.step.specs.declared.state.State.{State}
 use Rattle.step.specs.Rooms.{Rooms, reads, ctxOf, stOf, countOf, Stands}
-use Rattle.step.specs.Picture.{asked, picturedState, picturedAt, picturedCtx, SamePicture, PictureIs, Taken, Pictured}
+use Rattle.step.specs.Picture.{picturedState, picturedAt, picturedCtx, SamePicture, PictureIs, Taken, Pictured}
 use Rattle.step.specs.Contract.{Ready}
 use Rattle.step.proofs.Doing.{nodes-some}
 use Rattle.step.proofs.Pictures.{ctx-back}
@@ -46,18 +46,15 @@ pictured-hole {l} {R} {k} {st} rd T among w t =
 -- WHETHER IT WAS TAKEN or not
 module _ {old : List ℕ} {T : Sort} {st : State} {new : List ℕ} (p : Pictured old T st new) where
   either : (P : Type 0) → (Taken old T st new → P) → (new ≡ old → P) → P
-  either P f g = at (eqb (asked old) (st .goals)) refl
+  either P f g = at (eqb (st .asked) (st .goals)) refl
     where
-      at : (b : Bool) → eqb (asked old) (st .goals) ≡ b → P
-      at true e = f (p .taken (eqb-true (asked old) (st .goals) e))
-      at false e = g (p .kept (eqb-false (asked old) (st .goals) e))
+      at : (b : Bool) → eqb (st .asked) (st .goals) ≡ b → P
+      at true e = f (p .taken (eqb-true (st .asked) (st .goals) e))
+      at false e = g (p .kept (eqb-false (st .asked) (st .goals) e))
 
   -- an earlier goal's picture is kept
-  pub pictured-earlier : asked old < st .goals → SamePicture old new
+  pub pictured-earlier : st .asked < st .goals → SamePicture old new
   pictured-earlier h i k = ap (λ (w : List ℕ). getD w i 0) (p .kept (λ e. omega arith))
-
-  pub pictured-asks : asked new ≡ asked old
-  pictured-asks = either (asked new ≡ asked old) (λ t. t .asks) (ap asked)
 
   pub pictured-size : length new ≡ length old
   pictured-size = either (length new ≡ length old) (λ t. t .size) (ap length)

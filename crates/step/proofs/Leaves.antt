@@ -27,8 +27,8 @@ pub term-is : (l : List ℕ) (p k : ℕ) (r : TermRecord) → p ≡ props l → 
 term-is l p k r e h = h ∙ ap (λ (p : ℕ). asTerm (recordAt l (p + k + 1))) e
 
 -- ONE SERIAL MORE
-pub numbered-is : (st : State) (n : ℕ) → n ≡ st .serials + 1 → record { records = st .records; goals = st .goals; serials = n; made = st .made; context = st .context } ≡ numbered st
-numbered-is st n h i = record { records = st .records; goals = st .goals; serials = h i; made = st .made; context = st .context }
+pub numbered-is : (st : State) (n : ℕ) → n ≡ st .serials + 1 → record { records = st .records; goals = st .goals; serials = n; made = st .made; context = st .context; asked = st .asked } ≡ numbered st
+numbered-is st n h i = record { records = st .records; goals = st .goals; serials = h i; made = st .made; context = st .context; asked = st .asked }
 
 -- RECORDS of the tree and of the goals
 pub node-prop : (rule k i j n : ℕ) (T : Sort) (p : Number) → T ≡ Proposition p → record { kind = rule; count = 0; a = k; b = p .0; c = i; parameters = j ∷ n ∷ 0 ∷ 0 ∷ [] } ≡ nodeRec rule k T i j n

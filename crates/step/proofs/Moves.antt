@@ -34,7 +34,7 @@ use Rattle.step.specs.Trees.{TreesAre}
 use Rattle.step.specs.Picture.{PicturesAre}
 use Rattle.step.specs.Contract.{Left}
 use Rattle.step.specs.Steps.{Making}
-use Rattle.step.proofs.Pictures.{asked-same, entered-picture}
+use Rattle.step.proofs.Pictures.{entered-picture}
 use Rattle.step.proofs.Frames.{entries-kept, ctx-kept, loaded-kept, grown-none}
 
 -- WHAT HOLDS OF THE ROOMS still does, after whatever left them so
@@ -56,7 +56,7 @@ pub making-none : {l ps : List ℕ} {st : State} → Arena ps (countOf l st) →
 making-none {st = st} ok m =
     record {
       spent = 0;
-      state = λ i. record { records = st .records; goals = st .goals; serials = st .serials; made = zero-more i; context = st .context };
+      state = λ i. record { records = st .records; goals = st .goals; serials = st .serials; made = zero-more i; context = st .context; asked = st .asked };
       within = m;
       arena = ok;
       same = λ m h. refl;
@@ -97,6 +97,7 @@ module _ (R : Rooms) {l ps' : List ℕ} {st st' : State} (mk : Making l (R .prop
         records = omega arith;
         goals = omega arith;
         context = making-context mk;
+        asked = ap (λ (s : State). s .asked) (mk .state);
         trees = tt;
         pictures = tt;
         grown =
@@ -107,7 +108,6 @@ module _ (R : Rooms) {l ps' : List ℕ} {st st' : State} (mk : Making l (R .prop
               tree = λ m h. refl;
               goals = λ m h. refl;
               work = λ m h. refl;
-              asks = refl;
               picture = λ k i h. refl;
               props-long = mk .long;
               tree-long = refl;
@@ -155,7 +155,7 @@ loaded-left l st c left e f h = omega (arith, h .propositions)
 
 -- what `grown` says of the counts once there are e propositions where there were c
 abbrev pub GrownTo : (st : State) (c e : ℕ) → State → Type 0
-GrownTo st c e s = (s .made + c ≡ st .made + e) × (s .records ≡ st .records) × (s .goals ≡ st .goals) × (s .serials ≡ st .serials) × (s .context ≡ st .context)
+GrownTo st c e s = (s .made + c ≡ st .made + e) × (s .records ≡ st .records) × (s .goals ≡ st .goals) × (s .serials ≡ st .serials) × (s .context ≡ st .context) × (s .asked ≡ st .asked)
 
 -- AN ANSWER of `prop`'s functions that make
 module _ (l old new : List ℕ) (c left : ℕ) (st : State) (k : ℕ → ℕ) (P : ℕ → Prop) (o : Made) (ec : c ≡ countOf l st) (el : left + st .made ≡ limit) (is : MadeIs old c left k P new o) where
@@ -172,7 +172,7 @@ module _ (l old new : List ℕ) (c left : ℕ) (st : State) (k : ℕ → ℕ) (P
         making =
             record {
               spent = k (props l);
-              state = λ i. record { records = g .1 i; goals = g .2 i; serials = g .3 i; made = more i; context = g .4 i };
+              state = λ i. record { records = g .1 i; goals = g .2 i; serials = g .3 i; made = more i; context = g .4 i; asked = g .5 i };
               within = omega arith;
               arena = subst (Arena new) ends (makes .arena);
               same = subst (λ (c : ℕ). Same c old new) ec (makes .same);
@@ -224,7 +224,7 @@ module _ (l ps ps' : List ℕ) (c left n i : ℕ) (st : State) (o : Made) (ec : 
 -- A SERIAL TAKEN
 pub numbered-left : {l : List ℕ} {R : Rooms} {st : State} → Arena (R .props) (countOf l st) → Left l R R st (numbered st) end
 unfolding TreesAre PicturesAre records holes
-numbered-left ok = record { records = omega arith; goals = omega arith; context = refl; trees = tt; pictures = tt; grown = grown-none ok }
+numbered-left ok = record { records = omega arith; goals = omega arith; context = refl; asked = refl; trees = tt; pictures = tt; grown = grown-none ok }
 
 -- AN ENTRY INSERTED. The state that still has as many entries as before is left the same; the new entry is above them
 module _ (R : Rooms) (st : State) {e : Entry} {work' : List ℕ} (ins : Inserted (R .work) (st .context) e work') where
@@ -235,6 +235,7 @@ module _ (R : Rooms) (st : State) {e : Entry} {work' : List ℕ} (ins : Inserted
         records = omega arith;
         goals = omega arith;
         context = refl;
+        asked = refl;
         trees = tt;
         pictures = tt;
         grown =
@@ -245,7 +246,6 @@ module _ (R : Rooms) (st : State) {e : Entry} {work' : List ℕ} (ins : Inserted
               tree = λ m h. refl;
               goals = λ m h. refl;
               work = λ m h. ins .others m (omega arith);
-              asks = asked-same (R .work) work' (entered-picture ins few);
               picture = λ k. entered-picture ins few;
               props-long = refl;
               tree-long = refl;

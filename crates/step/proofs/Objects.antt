@@ -172,7 +172,7 @@ module _ (l ps work : List ℕ) (w : Want) (H : Sort) (p head : ℕ) (st : State
           spent = made .making .spent
 
           abbrev last : State
-          last = record { records = st .records; goals = st .goals; serials = st .serials + 2; made = st .made + spent; context = st .context + 2 }
+          last = record { records = st .records; goals = st .goals; serials = st .serials + 2; made = st .made + spent; context = st .context + 2; asked = st .asked }
 
           twice : (n : ℕ) → n + 1 + 1 ≡ n + 2
           twice n = omega arith
@@ -181,7 +181,7 @@ module _ (l ps work : List ℕ) (w : Want) (H : Sort) (p head : ℕ) (st : State
           is-last =
               e₂
               ∙ ap (λ (s : State). deeper (numbered s)) (e₁ ∙ ap (λ (s : State). deeper (numbered s)) (made .making .state))
-              ∙ (λ j. record { records = st .records; goals = st .goals; serials = twice (st .serials) j; made = st .made + spent; context = twice (st .context) j })
+              ∙ (λ j. record { records = st .records; goals = st .goals; serials = twice (st .serials) j; made = st .made + spent; context = twice (st .context) j; asked = st .asked })
 
           stands-for : reads l ps' (sort.Proposition m) ≡ prop (put (st .serials) B)
           stands-for = made .stands .means

@@ -5,6 +5,7 @@ use Prim.Native.Nat.{ℕ, zero, suc, _+_, _*_, _<_, _≤_}
 use native.Mathlib.Omega.{arith}
 use lib.ListN.{length, length-append}
 use Rattle.numbers.specs.declared.Sort.{Sort}
+use Rattle.numbers.specs.Limits.{none}
 use Rattle.numbers.specs.Records.{wordAt, Same}
 use Rattle.layout.specs.File.{props}
 use Rattle.rules.specs.Prop.{Ty}
@@ -19,7 +20,7 @@ use Rattle.context.specs.Context.{most-entries, context-room, entryAt, Inserted
 use Rattle.context.proofs.Laws.{entry-kept}
 use Rattle.step.specs.declared.state.State.{State}
 use Rattle.step.specs.Rooms.{stOf, countOf, reads, Stands, first-pictured}
-use Rattle.step.specs.Picture.{asked-at, serials-at, made-at, length-at, type-entry, asked, picturedState, picturedType, picturedAt, picturedCtx, SamePicture, PictureIs, PicturesAre, Copied, StartsAt}
+use Rattle.step.specs.Picture.{serials-at, made-at, length-at, type-entry, picturedState, picturedType, picturedAt, picturedCtx, SamePicture, PictureIs, PicturesAre, Copied, StartsAt}
 
 -- THE SAME BYTES show the same
 module _ (old new : List ℕ) (s : SamePicture old new) where
@@ -29,17 +30,13 @@ module _ (old new : List ℕ) (s : SamePicture old new) where
   entry-behind : (m : ℕ) → most-entries ≤ m → entryAt new m ≡ entryAt old m
   entry-behind m h = entry-kept old new m (λ i lo hi. s i (omega arith))
 
-  pub asked-same : asked new ≡ asked old
-  unfolding asked
-  asked-same = word-behind asked-at (omega arith)
-
   state-same : picturedState new ≡ picturedState old
   unfolding picturedState
   state-same =
       let a = word-behind serials-at (omega arith) in
       let b = word-behind made-at (omega arith) in
       let c = word-behind length-at (omega arith) in
-      λ i. record { records = 0; goals = 0; serials = a i; made = b i; context = c i }
+      λ i. record { records = 0; goals = 0; serials = a i; made = b i; context = c i; asked = none }
 
   type-behind : picturedType new ≡ picturedType old
   unfolding picturedType
@@ -107,25 +104,25 @@ moved-picture l ps w w' {c} {g} s p =
     }
 
 -- the pictures of trees
-module _ (l ps ps' w w' : List ℕ) {c d : ℕ} (ok : Arena ps c) (same : Same c ps ps') (up : c ≤ d) (asks : asked w' ≡ asked w) where
-  pub pictures-kept : (m : ℕ) (ts : Trees) → (asked w < m + holes ts → SamePicture w w') → PicturesAre l ps w c m ts → PicturesAre l ps' w' d m ts
+module _ (l ps ps' w w' : List ℕ) {c d : ℕ} (ok : Arena ps c) (same : Same c ps ps') (up : c ≤ d) (a : ℕ) where
+  pub pictures-kept : (m : ℕ) (ts : Trees) → (a < m + holes ts → SamePicture w w') → PicturesAre l ps w a c m ts → PicturesAre l ps' w' a d m ts
   unfolding PicturesAre holes
   pictures-kept m end s h = tt
   pictures-kept m (gap g ts) s h = (
-    λ e. grown-picture l ps ps' ok same up (moved-picture l ps w w' (s (omega arith)) (h .0 (e ∙ asks))),
+    λ e. grown-picture l ps ps' ok same up (moved-picture l ps w w' (s (omega arith)) (h .0 e)),
     pictures-kept (m + 1) ts (λ k. s (omega arith)) (h .1),
   )
   pictures-kept m (node nd us ts) s h = (pictures-kept m us (λ k. s (omega arith)) (h .0), pictures-kept (m + holes us) ts (λ k. s (omega arith)) (h .1))
 
 -- side by side
-pub pictures-beside : (l ps w : List ℕ) (c m : ℕ) (ts us : Trees) → PicturesAre l ps w c m ts → PicturesAre l ps w c (m + holes ts) us → PicturesAre l ps w c m (ts ⊕ us)
+pub pictures-beside : (l ps w : List ℕ) (a c m : ℕ) (ts us : Trees) → PicturesAre l ps w a c m ts → PicturesAre l ps w a c (m + holes ts) us → PicturesAre l ps w a c m (ts ⊕ us)
 unfolding PicturesAre holes _⊕_
-pictures-beside l ps w c m end us h k = subst (λ (i : ℕ). PicturesAre l ps w c i us) (omega arith) k
-pictures-beside l ps w c m (gap g ts) us h k = (h .0, pictures-beside l ps w c (m + 1) ts us (h .1) (subst (λ (i : ℕ). PicturesAre l ps w c i us) (omega arith) k))
-pictures-beside l ps w c m (node nd vs ts) us h k = (h .0, pictures-beside l ps w c (m + holes vs) ts us (h .1) (subst (λ (i : ℕ). PicturesAre l ps w c i us) (omega arith) k))
+pictures-beside l ps w a c m end us h k = subst (λ (i : ℕ). PicturesAre l ps w a c i us) (omega arith) k
+pictures-beside l ps w a c m (gap g ts) us h k = (h .0, pictures-beside l ps w a c (m + 1) ts us (h .1) (subst (λ (i : ℕ). PicturesAre l ps w a c i us) (omega arith) k))
+pictures-beside l ps w a c m (node nd vs ts) us h k = (h .0, pictures-beside l ps w a c (m + holes vs) ts us (h .1) (subst (λ (i : ℕ). PicturesAre l ps w a c i us) (omega arith) k))
 
 -- the goal that is asked for, where it stands
-pub picture-at : {l ps w : List ℕ} {c : ℕ} (m : ℕ) {g : Gap} {ts : Trees} (p : At g ts) → m + length (before p) ≡ asked w → PicturesAre l ps w c m ts → PictureIs l ps w c g
+pub picture-at : {l ps w : List ℕ} {a c : ℕ} (m : ℕ) {g : Gap} {ts : Trees} (p : At g ts) → m + length (before p) ≡ a → PicturesAre l ps w a c m ts → PictureIs l ps w c g
 unfolding PicturesAre before
 picture-at m (here {ts = ts}) e h = h .0 (omega arith)
 picture-at m (past-gap {h = q} p) e h = picture-at (m + 1) p (omega arith) (h .1)

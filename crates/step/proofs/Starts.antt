@@ -16,13 +16,13 @@ use Rattle.step.specs.declared.state.State.{State}
 use Rattle.step.specs.Rooms.{Rooms, Loaded, countOf, most-nodes, most-goals, run-room}
 use Rattle.step.specs.Contract.{Ready}
 
--- nothing made yet
-abbrev pub nothing : State
-nothing = record { records = 0; goals = 0; serials = 0; made = 0; context = 0 }
+-- nothing made yet, and goal a's picture is to be taken
+abbrev pub beginning : ℕ → State
+beginning a = record { records = 0; goals = 0; serials = 0; made = 0; context = 0; asked = a }
 
-pub ready-root : {l : List ℕ} (R : Rooms) → Good Check l → Loaded l (R .props) (countOf l nothing) → 16 * most-nodes ≤ length (R .tree) → 8 * most-goals ≤ length (R .goals)
-    → run-room ≤ length (R .work) → Ready l R 0 nothing
-ready-root {l} R good loaded tree goals work =
+pub ready-root : {l : List ℕ} (R : Rooms) (a : ℕ) → Good Check l → Loaded l (R .props) (countOf l (beginning a)) → 16 * most-nodes ≤ length (R .tree) → 8 * most-goals ≤ length (R .goals)
+    → run-room ≤ length (R .work) → Ready l R 0 (beginning a)
+ready-root {l} R a good loaded tree goals work =
     let p = good-passed good in
     let some : 0 < terms l = omega (arith, p .counted .some) in
     let all : nodes (termAt l 0) ≡ terms l = nodes-root (p .formed) (p .linked) some in

@@ -8,6 +8,7 @@ use native.Mathlib.Omega.{arith}
 use lib.ListN.{length, getD, set}
 use lib.Seq.{getD-set-other}
 use Rattle.numbers.specs.declared.Sort.{Sort}
+use Rattle.numbers.specs.Limits.{none}
 use Rattle.numbers.specs.Records.{wordAt, putWord}
 use Rattle.numbers.proofs.Records.{length-word, word-far, word-same}
 use Rattle.context.specs.declared.identifier_context.Entry.{Entry}
@@ -15,19 +16,12 @@ use Rattle.context.specs.Context.{most-entries, context-room, entryAt, Inserted
 use Rattle.context.proofs.Laws.{entry-kept}
 use Rattle.step.specs.declared.state.State.{State}
 use Rattle.step.specs.Rooms.{first-pictured, run-room, starting}
-use Rattle.step.specs.Picture.{asked-at, serials-at, made-at, length-at, type-entry, asked, picturedState, picturedType, picturedAt, Asks, Copied, Taken, Pictured}
+use Rattle.step.specs.Picture.{serials-at, made-at, length-at, type-entry, picturedState, picturedType, picturedAt, Copied, Taken, Pictured}
 
 byte-far : (l : List ℕ) (i v j : ℕ) → (i ≤ j → j < i + 2 → ⊥) → getD (putWord l i v) j 0 ≡ getD l j 0
 byte-far l i v j h =
     getD-set-other (set l i (v % 256)) (i + 1) j (v / 256) 0 (λ e. h (omega arith) (omega arith))
     ∙ getD-set-other l i j (v % 256) 0 (λ e. h (omega arith) (omega arith))
-
--- ASKING
-pub asks-put : (old new : List ℕ) (m : ℕ) → run-room ≤ length old → new ≡ putWord old asked-at m → Asks old m new
-unfolding asked
-asks-put old new m h e =
-    subst⁻¹ (Asks old m) e
-    (record { asks = word-same old asked-at m (omega arith); size = length-word old asked-at m; outside = λ i k. byte-far old asked-at m i k })
 
 -- COPYING, one entry after the other
 abbrev pub Apart : (from to n : ℕ) → Type 0
@@ -101,15 +95,6 @@ module _ (w w₁ w₂ w₃ w₄ w₅ : List ℕ) (T : Sort) (st : State) (e : En
   word₂ : (j : ℕ) → j + 1 < made-at → wordAt w₂ j ≡ wordAt w₁ j
   word₂ j h = ap (λ (w : List ℕ). wordAt w j) q₂ ∙ word-far w₁ made-at (st .made) j (omega arith) (omega arith) (omega arith)
 
-  takes-asked : asked w₅ ≡ asked w
-  unfolding asked
-  takes-asked =
-      late-word asked-at (omega arith)
-      ∙ word₃ asked-at (omega arith)
-      ∙ word₂ asked-at (omega arith)
-      ∙ ap (λ (w : List ℕ). wordAt w asked-at) q₁
-      ∙ word-far w serials-at (st .serials) asked-at (omega arith) (omega arith) (omega arith)
-
   takes-state : picturedState w₅ ≡ starting st
   unfolding picturedState
   takes-state =
@@ -128,7 +113,7 @@ module _ (w w₁ w₂ w₃ w₄ w₅ : List ℕ) (T : Sort) (st : State) (e : En
       late-word length-at (omega arith)
       ∙ ap (λ (w : List ℕ). wordAt w length-at) q₃
       ∙ word-same w₂ length-at (st .context) (omega (arith, size₂)) in
-      λ i. record { records = 0; goals = 0; serials = a i; made = b i; context = c i }
+      λ i. record { records = 0; goals = 0; serials = a i; made = b i; context = c i; asked = none }
 
   takes-type : picturedType w₅ ≡ T
   unfolding picturedType
@@ -155,7 +140,6 @@ module _ (w w₁ w₂ w₃ w₄ w₅ : List ℕ) (T : Sort) (st : State) (e : En
   pub takes : Taken w T st w₅
   takes =
       record {
-        asks = takes-asked;
         state = takes-state;
         wanted = takes-type;
         entries = takes-entries;
@@ -164,13 +148,11 @@ module _ (w w₁ w₂ w₃ w₄ w₅ : List ℕ) (T : Sort) (st : State) (e : En
       }
 
 -- IF IT IS ASKED FOR
-pub pictured-taken : (old new : List ℕ) (T : Sort) (st : State) (m : ℕ) → m ≡ wordAt old asked-at → m ≡ st .goals → Taken old T st new → Pictured old T st new
-unfolding asked
-pictured-taken old new T st m e h t = record { taken = λ q. t; kept = λ n. absurd (n (sym e ∙ h)) }
+pub pictured-taken : (old new : List ℕ) (T : Sort) (st : State) → st .asked ≡ st .goals → Taken old T st new → Pictured old T st new
+pictured-taken old new T st h t = record { taken = λ q. t; kept = λ n. absurd (n h) }
 
-pub pictured-kept : (old : List ℕ) (T : Sort) (st : State) (m : ℕ) → m ≡ wordAt old asked-at → (m ≡ st .goals → ⊥) → Pictured old T st old
-unfolding asked
-pictured-kept old T st m e h = record { taken = λ q. absurd (h (e ∙ q)); kept = λ n. refl }
+pub pictured-kept : (old : List ℕ) (T : Sort) (st : State) → (st .asked ≡ st .goals → ⊥) → Pictured old T st old
+pictured-kept old T st h = record { taken = λ q. absurd (h q); kept = λ n. refl }
 
 -- RECALLING: the words of the head
 pub recalls-type : (w : List ℕ) (e : Entry) → e ≡ entryAt w type-entry → e .typ ≡ picturedType w
@@ -178,9 +160,9 @@ unfolding picturedType
 recalls-type w e q = ap (λ (e : Entry). e .typ) q
 
 pub recalls-state : (w : List ℕ) (a b c : ℕ) → a ≡ wordAt w serials-at → b ≡ wordAt w made-at → c ≡ wordAt w length-at
-    → record { records = 0; goals = 0; serials = a; made = b; context = c } ≡ picturedState w
+    → record { records = 0; goals = 0; serials = a; made = b; context = c; asked = none } ≡ picturedState w
 unfolding picturedState
-recalls-state w a b c qa qb qc i = record { records = 0; goals = 0; serials = qa i; made = qb i; context = qc i }
+recalls-state w a b c qa qb qc i = record { records = 0; goals = 0; serials = qa i; made = qb i; context = qc i; asked = none }
 
 module _ (w : List ℕ) (c : ℕ) (qc : c ≡ wordAt w length-at) where
   recalls-length : c ≡ picturedState w .context

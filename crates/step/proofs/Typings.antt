@@ -116,7 +116,7 @@ module _ (l ps work ps' : List ℕ) (p : ℕ) (w : Want) (T : Sort) (c left : �
           making =
               record {
                 spent = size-ty A;
-                state = λ i. record { records = g .1 i; goals = g .2 i; serials = g .3 i; made = more i; context = g .4 i };
+                state = λ i. record { records = g .1 i; goals = g .2 i; serials = g .3 i; made = more i; context = g .4 i; asked = g .5 i };
                 within = omega arith;
                 arena = subst (Arena ps') ends (to .arena);
                 same = subst (λ (c : ℕ). Same c ps ps') ec (to .same);

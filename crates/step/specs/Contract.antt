@@ -6,6 +6,7 @@ use lib.ListN.{length}
 use Rattle.numbers.specs.declared.Sort.{Sort}
 use Rattle.numbers.specs.declared.refusal.Refusal.{Refusal}
 use Rattle.numbers.specs.Records.{Same}
+use Rattle.numbers.specs.Refusals.{refusal-at}
 use Rattle.layout.specs.File.{terms}
 use mathlib.Core.Bool.{Bool, _||_}
 use lib.Dec.{eqb}
@@ -23,7 +24,7 @@ use Rattle.step.specs.declared.state.Ran.the-variants as ran
 use Rattle.step.specs.Rooms.{Rooms, Base, Stands, ctxOf, stOf, countOf, most-nodes, most-goals, serials-cap, entries-cap}
 use Rattle.step.specs.Modes.{mode}
 use Rattle.step.specs.Trees.{SameGoals, TreesAre}
-use Rattle.step.specs.Picture.{asked, SamePicture, PicturesAre}
+use Rattle.step.specs.Picture.{SamePicture, PicturesAre}
 
 -- BEFORE: the rooms have space for all that the term can come to; the table's other terms gave at most two serials and two entries each
 pub record Ready (l : List ℕ) (R : Rooms) (k : ℕ) (st : State) : Type 0 where
@@ -34,29 +35,29 @@ pub record Ready (l : List ℕ) (R : Rooms) (k : ℕ) (st : State) : Type 0 wher
   pub serials : st .serials + 2 * nodes (termAt l k) ≤ serials-cap l
   pub context : st .context + 2 * nodes (termAt l k) ≤ entries-cap l
 
--- THE FRAME: there are now d propositions; the first c of them, r tree records, g goals and n entries are kept, and the picture if it is of such a goal
-pub record Grown (R R' : Rooms) (c d r g n : ℕ) : Type 0 where
+-- THE FRAME: there are now d propositions; the first c of them, r tree records, g goals (and the picture, if of goal a < g) and n entries are kept
+pub record Grown (R R' : Rooms) (c d r g n a : ℕ) : Type 0 where
   pub arena : Arena (R' .props) d
   pub more : c ≤ d
   pub props : Same c (R .props) (R' .props)
   pub tree : Same r (R .tree) (R' .tree)
   pub goals : SameGoals g (R .goals) (R' .goals)
   pub work : SameEntries n (R .work) (R' .work)
-  pub asks : asked (R' .work) ≡ asked (R .work)
-  pub picture : asked (R .work) < g → SamePicture (R .work) (R' .work)
+  pub picture : a < g → SamePicture (R .work) (R' .work)
   pub props-long : length (R' .props) ≡ length (R .props)
   pub tree-long : length (R' .tree) ≡ length (R .tree)
   pub goals-long : length (R' .goals) ≡ length (R .goals)
   pub work-long : length (R' .work) ≡ length (R .work)
 
--- AFTER: from the old counts up to the new ones stand these trees, and the context is as long as before
+-- AFTER: from the old counts up to the new ones stand these trees, the context is as long as before, and the same picture is asked for
 pub record Left (l : List ℕ) (R R' : Rooms) (st st' : State) (ts : Trees) : Type 0 where
   pub records : st' .records ≡ st .records + records ts
   pub goals : st' .goals ≡ st .goals + holes ts
   pub context : st' .context ≡ st .context
+  pub asked : st' .asked ≡ st .asked
   pub trees : TreesAre l R' (countOf l st') (st .records) (st .goals) ts
-  pub pictures : PicturesAre l (R' .props) (R' .work) (countOf l st') (st .goals) ts
-  pub grown : Grown R R' (countOf l st) (countOf l st') (st .records) (st .goals) (st .context)
+  pub pictures : PicturesAre l (R' .props) (R' .work) (st .asked) (countOf l st') (st .goals) ts
+  pub grown : Grown R R' (countOf l st) (countOf l st') (st .records) (st .goals) (st .context) (st .asked)
 
 -- the rules accept, with these counts, and their tree is left
 pub record Accepts (l : List ℕ) (R R' : Rooms) (st st' : State) (o : Out Answer) : Type 0 where
@@ -72,9 +73,12 @@ pub record Answers (l : List ℕ) (R R' : Rooms) (st st' : State) (T : Sort) (o 
 abbrev pub runOf : (l : List ℕ) → Rooms → ℕ → Mode → State → Out Answer
 runOf l R k w st = run (termAt l k) w (ctxOf l (R .props) (R .work) (st .context)) (stOf st)
 
--- a refusal, as the rules have it
+-- a refusal, as the rules have it, and one of theirs, as the code tells it
 abbrev pub refusal-of : Refusal → Fault
 refusal-of r = refusal (r .number) (r .place)
+
+abbrev pub told : Fault → Refusal
+told s = refusal-at (s .number) (s .place)
 
 abbrev pub Refuses : {X : Type 0} → Out X → Refusal → Type 0
 Refuses o r = o ≡ stop (refusal-of r)

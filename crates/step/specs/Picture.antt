@@ -5,6 +5,7 @@ use mathlib.Core.List.{List, [], _∷_}
 use Prim.Native.Nat.{ℕ, zero, suc, _+_, _*_, _<_, _≤_}
 use lib.ListN.{length, getD}
 use Rattle.numbers.specs.declared.Sort.{Sort}
+use Rattle.numbers.specs.Limits.{none}
 use Rattle.numbers.specs.Records.{wordAt}
 use Rattle.rules.specs.Prop.{Ty}
 use Rattle.rules.specs.Context.{Ctx}
@@ -16,28 +17,22 @@ use Rattle.context.specs.Context.{most-entries, context-room, entryAt, stands}
 use Rattle.step.specs.declared.state.State.{State}
 use Rattle.step.specs.Rooms.{stOf, countOf, starting, reads, ctxOf, Stands, Entries, first-pictured, serials-cap, entries-cap}
 
--- THE PLACE. Its head is four numbers of 16 bits (the goal that is asked for, and the counts at the hole: serials, propositions made, entries) and an
--- entry, of which only the type says something: it is the wanted one. The hole's entries follow
-abbrev pub asked-at : ℕ
-asked-at = context-room
-
+-- THE PLACE. Its head is three numbers of 16 bits (the counts at the hole: serials, propositions made, entries) and an entry, of which only the type
+-- says something: it is the wanted one. The hole's entries follow
 abbrev pub serials-at : ℕ
-serials-at = context-room + 2
+serials-at = context-room
 
 abbrev pub made-at : ℕ
-made-at = context-room + 4
+made-at = context-room + 2
 
 abbrev pub length-at : ℕ
-length-at = context-room + 6
+length-at = context-room + 4
 
 abbrev pub type-entry : ℕ
 type-entry = most-entries + 1
 
-unfoldable pub asked : List ℕ → ℕ
-asked w = wordAt w asked-at
-
 unfoldable pub picturedState : List ℕ → State
-picturedState w = record { records = 0; goals = 0; serials = wordAt w serials-at; made = wordAt w made-at; context = wordAt w length-at }
+picturedState w = record { records = 0; goals = 0; serials = wordAt w serials-at; made = wordAt w made-at; context = wordAt w length-at; asked = none }
 
 unfoldable pub picturedType : List ℕ → Sort
 picturedType w = entryAt w type-entry .typ
@@ -66,17 +61,11 @@ pub record PictureIs (l ps w : List ℕ) (c : ℕ) (g : Gap) : Type 0 where
   pub few-serials : picturedState w .serials + 2 ≤ serials-cap l
   pub few-entries : picturedState w .context + 2 ≤ entries-cap l
 
--- of these trees, whose first gap is goal m, the goal that is asked for has its picture
-unfoldable pub PicturesAre : (l ps w : List ℕ) → (c m : ℕ) → Trees → Type 0
-PicturesAre l ps w c m end = Unit {0}
-PicturesAre l ps w c m (gap g ts) = (m ≡ asked w → PictureIs l ps w c g) × PicturesAre l ps w c (m + 1) ts
-PicturesAre l ps w c m (node nd ps′ ts) = PicturesAre l ps w c m ps′ × PicturesAre l ps w c (m + holes ps′) ts
-
--- ASKING for goal m
-pub record Asks (old : List ℕ) (m : ℕ) (new : List ℕ) : Type 0 where
-  pub asks : asked new ≡ m
-  pub size : length new ≡ length old
-  pub outside : (i : ℕ) → (asked-at ≤ i → i < asked-at + 2 → ⊥) → getD new i 0 ≡ getD old i 0
+-- of these trees, whose first gap is goal m, goal a has its picture
+unfoldable pub PicturesAre : (l ps w : List ℕ) → (a c m : ℕ) → Trees → Type 0
+PicturesAre l ps w a c m end = Unit {0}
+PicturesAre l ps w a c m (gap g ts) = (m ≡ a → PictureIs l ps w c g) × PicturesAre l ps w a c (m + 1) ts
+PicturesAre l ps w a c m (node nd ps′ ts) = PicturesAre l ps w a c m ps′ × PicturesAre l ps w a c (m + holes ps′) ts
 
 -- n ENTRIES COPIED, from one number on to another
 pub record Copied (old : List ℕ) (from to n : ℕ) (new : List ℕ) : Type 0 where
@@ -86,7 +75,6 @@ pub record Copied (old : List ℕ) (from to n : ℕ) (new : List ℕ) : Type 0 w
 
 -- TAKING the picture of a hole that wants T at st
 pub record Taken (old : List ℕ) (T : Sort) (st : State) (new : List ℕ) : Type 0 where
-  pub asks : asked new ≡ asked old
   pub state : picturedState new ≡ starting st
   pub wanted : picturedType new ≡ T
   pub entries : (i : ℕ) → i < st .context → picturedAt new i ≡ entryAt old i
@@ -95,8 +83,8 @@ pub record Taken (old : List ℕ) (T : Sort) (st : State) (new : List ℕ) : Typ
 
 -- it is taken if the next goal is the one that is asked for
 pub record Pictured (old : List ℕ) (T : Sort) (st : State) (new : List ℕ) : Type 0 where
-  pub taken : asked old ≡ st .goals → Taken old T st new
-  pub kept : (asked old ≡ st .goals → ⊥) → new ≡ old
+  pub taken : st .asked ≡ st .goals → Taken old T st new
+  pub kept : (st .asked ≡ st .goals → ⊥) → new ≡ old
 
 -- STARTING from the picture of g: in a work room that has the context back, T and st are what a filling's run begins with
 pub record StartsAt (l ps w : List ℕ) (g : Gap) (T : Sort) (st : State) : Type 0 where

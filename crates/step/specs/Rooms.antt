@@ -4,7 +4,7 @@ use mathlib.Core.List.{List}
 use Prim.Native.Nat.{ℕ, _+_, _*_, _<_, _≤_}
 use lib.ListN.{length}
 use Rattle.numbers.specs.declared.Sort.{Sort}
-use Rattle.numbers.specs.Limits.{most-terms}
+use Rattle.numbers.specs.Limits.{most-terms, none}
 use Rattle.layout.specs.File.{props, terms}
 use Rattle.rules.specs.Prop.{Ty}
 use Rattle.rules.specs.Context.{Ctx}
@@ -50,27 +50,27 @@ countOf l st = props l + st .made
 
 -- one record further
 abbrev pub inner : State → State
-inner st = record { records = st .records + 1; goals = st .goals; serials = st .serials; made = st .made; context = st .context }
+inner st = record { records = st .records + 1; goals = st .goals; serials = st .serials; made = st .made; context = st .context; asked = st .asked }
 
--- from where a filling starts: nothing of its own yet
+-- from where a filling starts: nothing of its own yet, and no picture is asked for
 abbrev pub starting : State → State
-starting st = record { records = 0; goals = 0; serials = st .serials; made = st .made; context = st .context }
+starting st = record { records = 0; goals = 0; serials = st .serials; made = st .made; context = st .context; asked = none }
 
 -- with so many entries
 abbrev pub leaving : State → ℕ → State
-leaving st n = record { records = st .records; goals = st .goals; serials = st .serials; made = st .made; context = n }
+leaving st n = record { records = st .records; goals = st .goals; serials = st .serials; made = st .made; context = n; asked = st .asked }
 
 -- with one serial more
 abbrev pub numbered : State → State
-numbered st = record { records = st .records; goals = st .goals; serials = st .serials + 1; made = st .made; context = st .context }
+numbered st = record { records = st .records; goals = st .goals; serials = st .serials + 1; made = st .made; context = st .context; asked = st .asked }
 
 -- with one entry more
 abbrev pub deeper : State → State
-deeper st = record { records = st .records; goals = st .goals; serials = st .serials; made = st .made; context = st .context + 1 }
+deeper st = record { records = st .records; goals = st .goals; serials = st .serials; made = st .made; context = st .context + 1; asked = st .asked }
 
 -- with c more propositions made
 abbrev pub making : ℕ → State → State
-making c st = record { records = st .records; goals = st .goals; serials = st .serials; made = st .made + c; context = st .context }
+making c st = record { records = st .records; goals = st .goals; serials = st .serials; made = st .made + c; context = st .context; asked = st .asked }
 
 -- THE ROOMS
 pub record Rooms : Type 0 where

@@ -133,7 +133,8 @@ pub record LetEntered (l ps work ps' work' : List ℕ) (x y : ℕ) (w : Want) (H
   pub datatype : ℕ
   pub body : Prop
   pub spent : ℕ
-  pub state : st' ≡ record { records = st .records; goals = st .goals; serials = st .serials + 2; made = st .made + spent; context = st .context + 2 }
+  pub state : st' ≡
+      record { records = st .records; goals = st .goals; serials = st .serials + 2; made = st .made + spent; context = st .context + 2; asked = st .asked }
   pub within : st' .made ≤ limit
   pub arena : Arena ps' (countOf l st')
   pub same : Same (countOf l st) ps ps'

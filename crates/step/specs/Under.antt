@@ -21,7 +21,8 @@ rest w ts o = then o (λ r st. finish w (after ts r) st)
 
 -- term k was begun in the rooms R₀ at st₀; now the rooms are R, the counts st, and the program q is left, for the children ks. The trees of its children stand
 -- after the record that is kept for its own node. The children have `used` nodes, `own` serials were made beside theirs, and there are `wide` of them
-pub record Doing (l : List ℕ) (R₀ : Rooms) (k : ℕ) (w : Mode) (st₀ : State) (R : Rooms) (st : State) {a : Arity} (q : Prog a) (ks : Kids a) (used own wide : ℕ) : Type 0 where
+pub record Doing (l : List ℕ) (R₀ : Rooms) (k : ℕ) (w : Mode) (st₀ : State) (R : Rooms) (st : State)
+    {a : Arity} (q : Prog a) (ks : Kids a) (used own wide : ℕ) : Type 0 where
   pub trees : Trees
   pub rule : runOf l R₀ k w st₀ ≡ rest w trees (obey q ks (stOf st))
   pub left : Left l R₀ R (inner st₀) st trees

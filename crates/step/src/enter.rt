@@ -26,41 +26,32 @@ pub fn new_identifier(st: State, name: Name) -> Fresh
 {
     let made = create(Counter { count: st.serials }, name);
     let identifier = made.identifier;
-    Fresh {
-        identifier,
-        state: State {
-            records: st.records,
-            goals: st.goals,
-            serials: made.counter.count,
-            made: st.made,
-            context: st.context,
-        },
-    }
+    let mut state = st;
+    state.serials = made.counter.count;
+    Fresh { identifier, state }
 }
 
 // The context gets an entry.
 pub fn enter(work: &mut [u8], st: State, identifier: Identifier, typ: Sort) -> State
     requires { ⌜ 8 * (st .context) + 8 ≤ length (now work) ⌝ }
     requires { ⌜ st .context < largest ⌝ }
-    ensures { λ r. ⌜ (r ≡ deeper st) × Inserted (now (work .entry)) (st .context) (record { name = identifier .name; serial = identifier .serial; typ = typ }) (now (work .exit)) ⌝ }
+    ensures { λ r. ⌜ (r ≡ deeper st) × Inserted (now (work .entry)) (st .context)
+        (record { name = identifier .name; serial = identifier .serial; typ = typ }) (now (work .exit)) ⌝ }
 {
     let name = identifier.name;
     let serial = identifier.serial;
     insert(work, st.context as usize, Entry { name, serial, typ });
-    State {
-        records: st.records,
-        goals: st.goals,
-        serials: st.serials,
-        made: st.made,
-        context: st.context + 1,
-    }
+    let mut s = st;
+    s.context += 1;
+    s
 }
 
 // A new identifier of that name, and its entry.
 pub fn enter_fresh(work: &mut [u8], st: State, name: Name, typ: Sort) -> State
     requires { ⌜ 8 * (st .context) + 8 ≤ length (now work) ⌝ }
     requires { ⌜ (st .context < largest) × (st .serials < largest) ⌝ }
-    ensures { λ r. ⌜ (r ≡ deeper (numbered st)) × Inserted (now (work .entry)) (st .context) (record { name = name; serial = record { 0 = st .serials }; typ = typ }) (now (work .exit)) ⌝ }
+    ensures { λ r. ⌜ (r ≡ deeper (numbered st)) × Inserted (now (work .entry)) (st .context)
+        (record { name = name; serial = record { 0 = st .serials }; typ = typ }) (now (work .exit)) ⌝ }
 {
     let f = new_identifier(st, name);
     let identifier = f.identifier;

@@ -135,7 +135,8 @@ pub fn open_let(
     requires { ⌜ Loaded (now file) (now props) (countOf (now file) st) ⌝ }
     requires { ⌜ TypeIn (countOf (now file) st) t × (st .made ≤ limit) ⌝ }
     requires { ⌜ (st .context + 2 ≤ «most-entries») × («context-room» ≤ length (now work)) × (st .serials + 2 ≤ «most-serials») ⌝ }
-    ensures { λ o. ⌜ EnteredAs (now (file .entry)) (now (props .entry)) (now (work .entry)) (now (props .exit)) (now (work .exit)) (r .name1 .0) (r .name2 .0) w t (k .0) (r .child1 .0) st o ⌝ }
+    ensures { λ o. ⌜ EnteredAs (now (file .entry)) (now (props .entry)) (now (work .entry)) (now (props .exit)) (now (work .exit)) (r .name1 .0)
+        (r .name2 .0) w t (k .0) (r .child1 .0) st o ⌝ }
 {
     let count = count_of(file, st);
     let Quantified::Over { datatype, body } = over(props, count, t, Quant::Ex) else {

@@ -5,7 +5,7 @@ ghost use Prim.Native.Nat.{_+_, _*_, _≤_};
 ghost use lib.ListN.{length};
 ghost use Rattle.context.specs.Context.{«most-entries»};
 ghost use Rattle.step.specs.Rooms.{«first-pictured», «run-room»};
-ghost use Rattle.step.specs.Picture.{picturedState, picturedType, Asks, Copied, Taken, Pictured};
+ghost use Rattle.step.specs.Picture.{picturedState, picturedType, Copied, Taken, Pictured};
 use super::state::State;
 use context::identifier_context::Entry;
 use context::identifier_context::LIMIT;
@@ -24,26 +24,16 @@ pub struct Start {
     pub state: State,
 }
 
-// The head: four 16-bit numbers, and the entry that holds the wanted type. Then the hole's entries.
-const ASKED: usize = ROOM;
+// The head: three 16-bit numbers, and the entry that holds the wanted type. Then the hole's entries.
+const SERIALS: usize = ROOM;
 
-const SERIALS: usize = ROOM + 2;
+const MADE: usize = ROOM + 2;
 
-const MADE: usize = ROOM + 4;
-
-const LENGTH: usize = ROOM + 6;
+const LENGTH: usize = ROOM + 4;
 
 const TYPE: usize = LIMIT + 1;
 
 const FIRST: usize = LIMIT + 2;
-
-// The next run is to take the picture of this goal. No goal has number 65535, which asks for none.
-pub fn ask(work: &mut [u8], goal: u16)
-    requires { ⌜ «run-room» ≤ length (now work) ⌝ }
-    ensures { λ _. ⌜ Asks (now (work .entry)) goal (now (work .exit)) ⌝ }
-{
-    put_word(work, ASKED, goal);
-}
 
 // The n entries from one number on, copied to another number on. They do not overlap.
 fn copy_entries(work: &mut [u8], from: usize, to: usize, n: usize)
@@ -81,7 +71,7 @@ pub fn picture(work: &mut [u8], wanted: Sort, st: State)
     requires { ⌜ («run-room» ≤ length (now work)) × (st .context ≤ «most-entries») ⌝ }
     ensures { λ _. ⌜ Pictured (now (work .entry)) wanted st (now (work .exit)) ⌝ }
 {
-    if word(work, ASKED) == st.goals {
+    if st.asked == st.goals {
         take(work, wanted, st);
     }
 }
@@ -89,7 +79,8 @@ pub fn picture(work: &mut [u8], wanted: Sort, st: State)
 // The hole's entries are the context again.
 pub fn recall(work: &mut [u8]) -> Start
     requires { ⌜ («run-room» ≤ length (now work)) × (picturedState (now work) .context ≤ «most-entries») ⌝ }
-    ensures { λ r. ⌜ (r .wanted ≡ picturedType (now (work .entry))) × (r .state ≡ picturedState (now (work .entry))) × Copied (now (work .entry)) «first-pictured» 0 (picturedState (now (work .entry)) .context) (now (work .exit)) ⌝ }
+    ensures { λ r. ⌜ (r .wanted ≡ picturedType (now (work .entry))) × (r .state ≡ picturedState (now (work .entry))) × Copied (now (work .entry))
+        «first-pictured» 0 (picturedState (now (work .entry)) .context) (now (work .exit)) ⌝ }
 {
     let e = entry_at(work, TYPE);
     let wanted = e.typ;
@@ -105,6 +96,7 @@ pub fn recall(work: &mut [u8]) -> Start
             serials,
             made,
             context,
+            asked: State::NO_PICTURE,
         },
     }
 }

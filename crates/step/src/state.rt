@@ -17,13 +17,20 @@ use numbers::Sort;
 use numbers::Term;
 use numbers::refusal::Refusal;
 
-// The counts: tree records, goals, serials and propositions made so far, and how many entries the context has.
+// The counts: tree records, goals, serials and propositions made so far, and how many entries the context has; and the number of the goal whose
+// picture the run takes, which it never changes.
 pub struct State {
     pub records: u16,
     pub goals: u16,
     pub serials: u16,
     pub made: u16,
     pub context: u16,
+    pub asked: u16,
+}
+
+impl State {
+    // No goal has that number, so it asks for no picture.
+    pub const NO_PICTURE: u16 = 65535;
 }
 
 // A term is asked for its type, or held to one.
@@ -78,15 +85,12 @@ pub fn left_of(st: State) -> u16
 // The counts once there are `end` propositions where there were `count`.
 pub fn grown(st: State, count: u16, end: u16) -> State
     requires { ⌜ (count ≤ end) × (st .made + end ≤ largest) ⌝ }
-    ensures { λ r. ⌜ (r .made + count ≡ st .made + end) × (r .records ≡ st .records) × (r .goals ≡ st .goals) × (r .serials ≡ st .serials) × (r .context ≡ st .context) ⌝ }
+    ensures { λ r. ⌜ (r .made + count ≡ st .made + end) × (r .records ≡ st .records) × (r .goals ≡ st .goals) × (r .serials ≡ st .serials)
+        × (r .context ≡ st .context) × (r .asked ≡ st .asked) ⌝ }
 {
-    State {
-        records: st.records,
-        goals: st.goals,
-        serials: st.serials,
-        made: st.made + (end - count),
-        context: st.context,
-    }
+    let mut s = st;
+    s.made += end - count;
+    s
 }
 
 // Premises stand behind their parent's record, which is written last.
@@ -94,26 +98,18 @@ pub fn inner(st: State) -> State
     requires { ⌜ st .records < largest ⌝ }
     ensures { λ r. ⌜ r ≡ inner st ⌝ }
 {
-    State {
-        records: st.records + 1,
-        goals: st.goals,
-        serials: st.serials,
-        made: st.made,
-        context: st.context,
-    }
+    let mut s = st;
+    s.records += 1;
+    s
 }
 
 // The context is again as long as it was.
 pub fn leave(st: State, context: u16) -> State
     ensures { λ r. ⌜ r ≡ leaving st context ⌝ }
 {
-    State {
-        records: st.records,
-        goals: st.goals,
-        serials: st.serials,
-        made: st.made,
-        context,
-    }
+    let mut s = st;
+    s.context = context;
+    s
 }
 
 // The record of term k.

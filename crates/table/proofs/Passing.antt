@@ -26,7 +26,7 @@ use Rattle.table.specs.declared.Purpose.the-variants.{Check}
 use Rattle.table.specs.declared.Guilty.{Guilty}
 use Rattle.table.specs.declared.Guilty.the-variants.{At, Nobody}
 use Rattle.table.specs.declared.Verdict.{Verdict}
-use Rattle.table.specs.declared.Verdict.the-variants.{Passes, Refused}
+use Rattle.table.specs.declared.Verdict.the-variants.{Passes}
 use Rattle.layout.specs.File.{props, terms, expected, propRecord, termRecord, PropKind, constant, linked as linking, quantified, atomic, strange, prop-kind}
 use Rattle.layout.specs.Form.{prop-shape, prop-form, term-form}
 use Rattle.table.specs.Links.{prop-children, prop-links, term-links, annotation-links, annotation, hits, expected-ok, badly-linked-prop, badly-linked-term}
@@ -75,10 +75,10 @@ pub record Passed (p : Purpose) (l : List ℕ) : Type 0 where
   pub sized : Sized l
   pub shut : open-goal p l ≡ Nobody
 
-unless-passes : (ok : Bool) (n i : ℕ) (rest : Verdict) → unless ok (Refused n i) rest ≡ Passes → (ok ≡ true) × (rest ≡ Passes)
+unless-passes : (ok : Bool) (k : ℕ) (rest : Verdict) → unless ok k rest ≡ Passes → (ok ≡ true) × (rest ≡ Passes)
 unfolding unless
-unless-passes true n i rest e = (refl, e)
-unless-passes false n i rest e = absurd (let z : _≡_ {A = ℕ} 0 1 = cc in omega arith)
+unless-passes true k rest e = (refl, e)
+unless-passes false k rest e = absurd (let z : _≡_ {A = ℕ} 0 1 = cc in omega arith)
 
 accused-passes : (k : ℕ) (g : Guilty) (rest : Verdict) → accused k g rest ≡ Passes → (g ≡ Nobody) × (rest ≡ Passes)
 unfolding accused
@@ -88,10 +88,10 @@ accused-passes k Nobody rest e = (refl, e)
 pub good-passed : {p : Purpose} {l : List ℕ} → Good p l → Passed p l
 unfolding tests from-counts from-forms from-expected from-links from-sizes from-goal
 good-passed {p} {l} e =
-    let a = unless-passes (header l) 2 0 _ e in
-    let b = unless-passes (counts l) 3 0 _ (a .1) in
+    let a = unless-passes (header l) 2 _ e in
+    let b = unless-passes (counts l) 3 _ (a .1) in
     let c = accused-passes 4 (formless l) _ (b .1) in
-    let d = unless-passes (expected-ok p l) 5 0 _ (c .1) in
+    let d = unless-passes (expected-ok p l) 5 _ (c .1) in
     let f = accused-passes 5 (badly-linked p l) _ (d .1) in
     let g = accused-passes 6 (oversized l) _ (f .1) in
     let h = accused-passes 7 (open-goal p l) _ (g .1) in

@@ -7,6 +7,8 @@ use native.Mathlib.Omega.{arith}
 use borrow.Author.Tests.{not-true, not-false, le-leb, lt-leb}
 use lib.ListN.{length, drop, replicate, length-append, length-drop}
 use lib.Seq.{drop-at}
+use Rattle.numbers.specs.declared.refusal.Refusal.{Refusal}
+use Rattle.numbers.specs.Refusals.{refusal-at}
 use Rattle.numbers.specs.Rooms.{cleared}
 use Rattle.table.specs.declared.Verdict.{Verdict}
 use Rattle.table.specs.declared.Purpose.{Purpose}
@@ -20,12 +22,12 @@ module _ (b ok : Bool) (told : ok ≡ b) where
   pub holds : not ok ≡ false → b ≡ true
   holds z = sym told ∙ not-false ok z
 
-  module _ (refusal rest : Verdict) where
-    pub fails : not ok ≡ true → refusal ≡ unless b refusal rest
+  module _ (k : ℕ) (rest : Verdict) where
+    pub fails : not ok ≡ true → (r : Refusal) → r ≡ refusal-at k 0 → Refused r ≡ unless b k rest
     unfolding unless
-    fails z = rw (sym told ∙ not-true ok z)
+    fails z r e = rw (sym told ∙ not-true ok z) (ap Refused e)
 
-    pub goes-on : not ok ≡ false → (v : Verdict) → v ≡ rest → v ≡ unless b refusal rest
+    pub goes-on : not ok ≡ false → (v : Verdict) → v ≡ rest → v ≡ unless b k rest
     unfolding unless
     goes-on z v e = rw (holds z) e
 
@@ -35,18 +37,18 @@ module _ (g found : Guilty) (told : found ≡ g) where
   clears z = sym told ∙ z
 
   module _ (k : ℕ) (rest : Verdict) where
-    pub accuses : (i : ℕ) → found ≡ At i → Refused k i ≡ accused k g rest
+    pub accuses : (i : ℕ) → found ≡ At i → (r : Refusal) → r ≡ refusal-at k i → Refused r ≡ accused k g rest
     unfolding accused
-    accuses i z = rw (sym told ∙ z)
+    accuses i z r e = rw (sym told ∙ z) (ap Refused e)
 
     pub goes-past : found ≡ Nobody → (v : Verdict) → v ≡ rest → v ≡ accused k g rest
     unfolding accused
     goes-past z v e = rw (clears z) e
 
 -- THE ENTRY: a room that is too short; and one whose first bytes were lent to the tests
-pub tested-short : (p : Purpose) (l work left : List ℕ) → length work < test-room → left ≡ cleared test-room work → Tested p l work left (Refused 1 0)
+pub tested-short : (p : Purpose) (l work left : List ℕ) (r : Refusal) → length work < test-room → left ≡ cleared test-room work → r ≡ refusal-at 1 0 → Tested p l work left (Refused r)
 unfolding unless
-tested-short p l work left h e = record { verdict = rw (lt-leb test-room (length work) h); room = e }
+tested-short p l work left r h c e = record { verdict = rw (lt-leb test-room (length work) h) (ap Refused e); room = c }
 
 -- clearing forgets what stood in the first n bytes
 forgets : (n : ℕ) (new work : List ℕ) → length new ≡ n → n ≤ length work → cleared n (new ++ drop n work) ≡ cleared n work

@@ -7,6 +7,7 @@ use Prim.Native.Nat.{ℕ, _+_, _*_, _≤_}
 use lib.ListN.{length, getD}
 use lib.Dec.{eqb, leb}
 use Rattle.numbers.specs.Records.{wordAt}
+use Rattle.numbers.specs.Refusals.{refusal-at}
 use Rattle.numbers.specs.Rooms.{cleared}
 use Rattle.numbers.specs.Limits.{most-propositions, most-terms}
 use Rattle.rules.specs.Prop.{closed}
@@ -68,13 +69,12 @@ unfoldable pub open-goal : Purpose → List ℕ → Guilty
 open-goal Check l = cond (closed (propAt l (expected l))) Nobody (At (expected l))
 open-goal Filling l = Nobody
 
--- ONE TEST and what comes after it: a refusal, with its place, or the rest; the code's answer `Verdict` holds the number and the place as
--- they are
-unfoldable pub unless : Bool → Verdict → Verdict → Verdict
-unless ok refusal rest = cond ok rest refusal
+-- ONE TEST and what comes after it: a refusal, at the guilty record or at place 0 where no record is to blame, or the rest
+unfoldable pub unless : Bool → ℕ → Verdict → Verdict
+unless ok k rest = cond ok rest (Refused (refusal-at k 0))
 
 unfoldable pub accused : ℕ → Guilty → Verdict → Verdict
-accused k (At i) rest = Refused k i
+accused k (At i) rest = Refused (refusal-at k i)
 accused k Nobody rest = rest
 
 -- THE TESTS, as a chain: each definition is the tests from one on, in the order 2, 3, 4, 5, 6, 7 of `tests`, and so the last stands first
@@ -89,16 +89,16 @@ unfoldable pub from-links : Purpose → List ℕ → Verdict
 from-links p l = accused 5 (badly-linked p l) (from-sizes p l)
 
 unfoldable pub from-expected : Purpose → List ℕ → Verdict
-from-expected p l = unless (expected-ok p l) (Refused 5 0) (from-links p l)
+from-expected p l = unless (expected-ok p l) 5 (from-links p l)
 
 unfoldable pub from-forms : Purpose → List ℕ → Verdict
 from-forms p l = accused 4 (formless l) (from-expected p l)
 
 unfoldable pub from-counts : Purpose → List ℕ → Verdict
-from-counts p l = unless (counts l) (Refused 3 0) (from-forms p l)
+from-counts p l = unless (counts l) 3 (from-forms p l)
 
 unfoldable pub tests : Purpose → List ℕ → Verdict
-tests p l = unless (header l) (Refused 2 0) (from-counts p l)
+tests p l = unless (header l) 2 (from-counts p l)
 
 -- THE ENTRY: a room of at least `test-room` bytes, two for each proposition that a table may have, else refusal 1; those bytes are zeros
 -- afterwards
@@ -106,5 +106,5 @@ abbrev pub test-room : ℕ
 test-room = 2 * most-propositions
 
 pub record Tested (p : Purpose) (l work left : List ℕ) (v : Verdict) : Type 0 where
-  pub verdict : v ≡ unless (leb test-room (length work)) (Refused 1 0) (tests p l)
+  pub verdict : v ≡ unless (leb test-room (length work)) 1 (tests p l)
   pub room : left ≡ cleared test-room work

@@ -17,6 +17,7 @@ use super::opening::well_aimed;
 use super::opening::well_counted;
 use super::opening::well_marked;
 use super::size::oversized;
+use numbers::refusal::Refusal;
 
 // Test 2.
 pub fn run_tests(file: &[u8], work: &mut [u8], purpose: Purpose) -> Verdict
@@ -24,7 +25,7 @@ pub fn run_tests(file: &[u8], work: &mut [u8], purpose: Purpose) -> Verdict
     ensures { λ r. ⌜ r ≡ tests purpose (now (file .entry)) ⌝ }
 {
     if !well_marked(file) {
-        return Verdict::Refused(2, 0);
+        return Verdict::Refused(Refusal::new(2, 0));
     }
     from_counts(file, work, purpose)
 }
@@ -36,7 +37,7 @@ fn from_counts(file: &[u8], work: &mut [u8], purpose: Purpose) -> Verdict
     ensures { λ r. ⌜ r ≡ «from-counts» purpose (now (file .entry)) ⌝ }
 {
     if !well_counted(file) {
-        return Verdict::Refused(3, 0);
+        return Verdict::Refused(Refusal::new(3, 0));
     }
     from_forms(file, work, purpose)
 }
@@ -48,7 +49,7 @@ fn from_forms(file: &[u8], work: &mut [u8], purpose: Purpose) -> Verdict
     ensures { λ r. ⌜ r ≡ «from-forms» purpose (now (file .entry)) ⌝ }
 {
     match formless(file) {
-        Guilty::At(i) => Verdict::Refused(4, i),
+        Guilty::At(i) => Verdict::Refused(Refusal::new(4, i)),
         Guilty::Nobody => from_expected(file, work, purpose),
     }
 }
@@ -61,7 +62,7 @@ fn from_expected(file: &[u8], work: &mut [u8], purpose: Purpose) -> Verdict
     ensures { λ r. ⌜ r ≡ «from-expected» purpose (now (file .entry)) ⌝ }
 {
     if !well_aimed(file, purpose) {
-        return Verdict::Refused(5, 0);
+        return Verdict::Refused(Refusal::new(5, 0));
     }
     from_links(file, work, purpose)
 }
@@ -75,7 +76,7 @@ fn from_links(file: &[u8], work: &mut [u8], purpose: Purpose) -> Verdict
     ensures { λ r. ⌜ r ≡ «from-links» purpose (now (file .entry)) ⌝ }
 {
     match badly_linked(file, work, purpose) {
-        Guilty::At(i) => Verdict::Refused(5, i),
+        Guilty::At(i) => Verdict::Refused(Refusal::new(5, i)),
         Guilty::Nobody => from_sizes(file, work, purpose),
     }
 }
@@ -89,7 +90,7 @@ fn from_sizes(file: &[u8], work: &mut [u8], purpose: Purpose) -> Verdict
     ensures { λ r. ⌜ r ≡ «from-sizes» purpose (now (file .entry)) ⌝ }
 {
     match oversized(file, work) {
-        Guilty::At(i) => Verdict::Refused(6, i),
+        Guilty::At(i) => Verdict::Refused(Refusal::new(6, i)),
         Guilty::Nobody => from_goal(file, work, purpose),
     }
 }
@@ -103,7 +104,7 @@ fn from_goal(file: &[u8], work: &mut [u8], purpose: Purpose) -> Verdict
     ensures { λ r. ⌜ r ≡ «from-goal» purpose (now (file .entry)) ⌝ }
 {
     match open_goal(file, work, purpose) {
-        Guilty::At(i) => Verdict::Refused(7, i),
+        Guilty::At(i) => Verdict::Refused(Refusal::new(7, i)),
         Guilty::Nobody => Verdict::Passes,
     }
 }

@@ -12,6 +12,7 @@ pub mod opening;
 pub mod size;
 
 use numbers::Proposition;
+use numbers::refusal::Refusal;
 
 // What a table is for: document 01's two entries.
 pub enum Purpose {
@@ -25,10 +26,10 @@ pub enum Guilty {
     Nobody,
 }
 
-// What the tests answer: a refusal has document 01's number and place.
+// What the tests answer.
 pub enum Verdict {
     Passes,
-    Refused(u8, u16),
+    Refused(Refusal),
 }
 
 // The bytes of the work room that the tests use: two for each proposition that a table may have.
@@ -41,7 +42,7 @@ pub fn test_table(file: &[u8], work: &mut [u8], purpose: Purpose) -> Verdict
 {
     if work.len() < ROOM {
         numbers::room::clear(work, ROOM);
-        return Verdict::Refused(1, 0);
+        return Verdict::Refused(Refusal::new(1, 0));
     }
     let answer = chain::run_tests(file, &mut work[..ROOM], purpose);
     numbers::room::clear(work, ROOM);

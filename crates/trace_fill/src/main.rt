@@ -13,8 +13,8 @@ use show::input::LONGEST;
 use show::input::next_word;
 use show::input::read_table;
 
-fn refused(n: u8, place: u16, which: Which) {
-    show::refused(n, place);
+// The line after a refusal.
+fn in_table(which: Which) {
     match which {
         Which::Old => show::text(b"where old\n"),
         Which::Filling => show::text(b"where filling\n"),
@@ -38,7 +38,10 @@ fn answer(old: &[u8], goal: u16, filling: &[u8]) {
         &mut work,
         &mut edited,
     ) {
-        Filled::Refused(n, place, which) => refused(n, place, which),
+        Filled::Refused(e, which) => {
+            show::refused(e);
+            in_table(which);
+        }
         Filled::Accepted(c) => {
             show::tree::whole(&tree, &goals, &props, c.records, c.goals, c.serials, c.made);
         }

@@ -8,6 +8,9 @@ use Rattle.editing.proofs.test_edited.Tie as tie
 well-counted-requires : tie.Need-well-counted-requires
 well-counted-requires c κs = search needs
 
+new-requires : tie.Need-new-requires
+new-requires c κs = search needs
+
 returns : tie.Need-returns
 unfolding edited-tests
 returns c = search fails
@@ -24,4 +27,4 @@ returns-2 c = search goes-on
 
 pub test-edited-spec : {M : Type 1} → statement M
 test-edited-spec =
-    tie.close (tie.spec well-counted-requires returns from-sizes-requires same-length returns-2)
+    tie.close (tie.spec well-counted-requires new-requires returns from-sizes-requires same-length returns-2)

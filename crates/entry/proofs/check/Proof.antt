@@ -45,6 +45,9 @@ check-table-requires c κs =
 clear-rooms-requires : tie.Need-clear-rooms-requires
 clear-rooms-requires c κs = search needs
 
+new-requires : tie.Need-new-requires
+new-requires c κs = search needs
+
 same-length : tie.Need-same-length
 same-length c = search needs
 
@@ -78,8 +81,8 @@ same-length-8 c = search needs
 
 returns-2 : tie.Need-returns-2
 returns-2 c =
-    let s = c .before .before .before .before .before .before .before .before .before .before .before .before .before .before .before .before .before .before .before .before .before .before .before .before in
-    marks-short (s .args .file .now) (rooms (s .args .tree .now) (s .args .goals .now) (s .args .props .now) (s .args .work .now)) _ (search long-false) (c .before .before .before .before .before .before .before .before .clear-rooms .ensures)
+    let s = c .before .before .before .before .before .before .before .before .before .before .before .before .before .before .before .before .before .before .before .before .before .before .before .before .before in
+    marks-short (s .args .file .now) (rooms (s .args .tree .now) (s .args .goals .now) (s .args .props .now) (s .args .work .now)) _ _ (search long-false) (c .before .before .before .before .before .before .before .before .before .clear-rooms .ensures) (c .new .ensures)
 
 pub check-spec : {M : Type 1} → statement M
 check-spec =
@@ -96,6 +99,7 @@ check-spec =
     slice-aggregate-check-table-4
     check-table-requires
     clear-rooms-requires
+    new-requires
     same-length
     same-length-2
     same-length-3

@@ -9,8 +9,8 @@ use Rattle.entry.proofs.check_table.Tie as tie
 test-table-requires : tie.Need-test-table-requires
 test-table-requires c κs = search needs
 
-enum-known-n : tie.Need-enum-known-n
-enum-known-n c = search needs
+enum-known-r : tie.Need-enum-known-r
+enum-known-r c = search needs
 
 clear-rooms-requires : tie.Need-clear-rooms-requires
 clear-rooms-requires c κs = search needs
@@ -31,7 +31,7 @@ returns : tie.Need-returns
 returns c =
     let s = c .before .before .before .before .before .before .before .before .before .before .before .before .before .before .before .before .before .before .before .before .before .before .before .before .before in
     let tested = c .before .before .before .before .before .before .before .before .before .before .before .before .before .before .before .before .before .before .test-table in
-    table-refused (s .args .file .now) (rooms (s .args .tree .now) (s .args .goals .now) (s .args .props .now) (s .args .work .now)) _ _ _ _ _ (c .before .before .before .before .before .before .before .before .before .before .before .before .before .before .n .given .1) (s .pre) (record { tree = s .pre .tree; goals = s .pre .goals; props = s .pre .props; work = tested .kept .1 .0 ∙ s .pre .work }) (tested .ensures) (c .before .before .before .before .before .before .before .before .clear-rooms .ensures)
+    table-refused (s .args .file .now) (rooms (s .args .tree .now) (s .args .goals .now) (s .args .props .now) (s .args .work .now)) _ _ _ _ (c .before .before .before .before .before .before .before .before .before .before .before .before .before .before .r .given .1) (s .pre) (record { tree = s .pre .tree; goals = s .pre .goals; props = s .pre .props; work = tested .kept .1 .0 ∙ s .pre .work }) (tested .ensures) (c .before .before .before .before .before .before .before .before .clear-rooms .ensures)
 
 enum-told : tie.Need-enum-told
 enum-told c = search needs
@@ -74,7 +74,7 @@ check-table-spec =
     tie.close
     (tie.spec
     test-table-requires
-    enum-known-n
+    enum-known-r
     clear-rooms-requires
     same-length
     same-length-2

@@ -87,6 +87,9 @@ fill-table-requires c κs =
     let long = test-true (s .args .tree .now) (s .args .goals .now) (s .args .props .now) (s .args .work .now) (s .args .edited .now) _ (c .before .before .before .before .before .before .long-enough .ensures) (c .before .before .before .before .before .if1 .taken) in
     firsts-exact (lent (s .args .tree .now) (s .args .goals .now) (s .args .props .now) (s .args .work .now) (s .args .edited .now)) long
 
+new-requires : tie.Need-new-requires
+new-requires c κs = search needs
+
 refuse-requires : tie.Need-refuse-requires
 refuse-requires c κs = search needs
 
@@ -130,9 +133,9 @@ same-length-10 c = search needs
 
 returns-2 : tie.Need-returns-2
 returns-2 c =
-    let s = c .before .before .before .before .before .before .before .before .before .before .before .before .before .before .before .before .before .before .before .before .before .before .before .before .before .before .before .before .before in
-    fills-short (lent (s .args .tree .now) (s .args .goals .now) (s .args .props .now) (s .args .work .now) (s .args .edited .now)) _ (s .args .old .now) (s .args .filling .now) (s .args .goal) _
-    (test-false (s .args .tree .now) (s .args .goals .now) (s .args .props .now) (s .args .work .now) (s .args .edited .now) _ (c .before .before .before .before .before .before .before .before .before .before .before .before .before .before .before .before .before .long-enough .ensures) (c .before .before .before .before .before .before .before .before .before .before .before .before .before .before .before .before .if1 .left)) (c .before .before .before .before .before .before .before .before .before .before .refuse .ensures)
+    let s = c .before .before .before .before .before .before .before .before .before .before .before .before .before .before .before .before .before .before .before .before .before .before .before .before .before .before .before .before .before .before in
+    fills-short (lent (s .args .tree .now) (s .args .goals .now) (s .args .props .now) (s .args .work .now) (s .args .edited .now)) _ (s .args .old .now) (s .args .filling .now) (s .args .goal) _ _
+    (test-false (s .args .tree .now) (s .args .goals .now) (s .args .props .now) (s .args .work .now) (s .args .edited .now) _ (c .before .before .before .before .before .before .before .before .before .before .before .before .before .before .before .before .before .before .long-enough .ensures) (c .before .before .before .before .before .before .before .before .before .before .before .before .before .before .before .before .before .if1 .left)) (c .before .before .before .before .before .before .before .before .before .before .before .before .before .before .before .before .new .ensures) (c .before .before .before .before .before .before .before .before .before .before .refuse .ensures)
 
 pub fill-spec : {M : Type 1} → statement M
 fill-spec =
@@ -150,6 +153,7 @@ fill-spec =
     slice-relend-prefix-fill-table-5
     slice-aggregate-fill-table-5
     fill-table-requires
+    new-requires
     refuse-requires
     same-length
     same-length-2

@@ -62,8 +62,8 @@ test-edited-requires c κs =
     subst⁻¹ (Edited (s .args .old .now) (s .args .filling .now) (s .args .hole .0)) part (edit .ensures) in
     ((omega (arith, E .size), omega (arith, x .rooms .work)), record { purpose = Check; linked = edited-in-order h E })
 
-enum-known-n : tie.Need-enum-known-n
-enum-known-n c = search needs
+enum-known-e : tie.Need-enum-known-e
+enum-known-e c = search needs
 
 refuse-requires : tie.Need-refuse-requires
 refuse-requires c κs = search needs
@@ -101,7 +101,7 @@ returns c =
       rooms = record { tree = x .rooms .tree; goals = x .rooms .goals; props = x .rooms .props; work = tested .kept .1 .0 ∙ x .rooms .work };
       edited = room-long (size .result) (s .args .edited .now) (edit .last .1 .1 .1 .0) fit (edit .kept .1 .1 .1 .0) ∙ x .edited;
     } in
-    edited-refused (s .args .old .now) (s .args .filling .now) (s .args .goal) (s .args .hole .0) (s .pre .1 .0) (lent (s .args .tree .now) (s .args .goals .now) (s .args .props .now) (s .args .work .now) (s .args .edited .now)) _ _ x y _ bytes E (tested .result) (tested .ensures) _ _ _ (c .before .before .before .before .before .before .before .before .before .before .before .before .before .before .before .before .before .n .given .1) (c .before .before .before .before .before .before .before .before .before .before .refuse .ensures)
+    edited-refused (s .args .old .now) (s .args .filling .now) (s .args .goal) (s .args .hole .0) (s .pre .1 .0) (lent (s .args .tree .now) (s .args .goals .now) (s .args .props .now) (s .args .work .now) (s .args .edited .now)) _ _ x y _ bytes E (tested .result) (tested .ensures) _ _ (c .before .before .before .before .before .before .before .before .before .before .before .before .before .before .before .before .before .e .given .1) (c .before .before .before .before .before .before .before .before .before .before .refuse .ensures)
 
 enum-told : tie.Need-enum-told
 enum-told c = search needs
@@ -180,7 +180,7 @@ fill-hole-spec =
     slice-reshare-prefix-test-edited
     slice-aggregate-test-edited
     test-edited-requires
-    enum-known-n
+    enum-known-e
     refuse-requires
     same-length
     same-length-2

@@ -11,8 +11,8 @@ use Rattle.filling.proofs.fill_table.Tie as tie
 check-table-requires : tie.Need-check-table-requires
 check-table-requires c κs = search needs
 
-enum-known-n : tie.Need-enum-known-n
-enum-known-n c = search needs
+enum-known-e : tie.Need-enum-known-e
+enum-known-e c = search needs
 
 refuse-requires : tie.Need-refuse-requires
 refuse-requires c κs = search needs
@@ -69,7 +69,7 @@ returns c =
           };
       edited = x .edited;
     } in
-    old-refused (s .args .old .now) (s .args .filling .now) (s .args .goal) (lent (s .args .tree .now) (s .args .goals .now) (s .args .props .now) (s .args .work .now) (s .args .edited .now)) _ _ x y (first .result) _ _ _ (c .before .before .before .before .before .before .before .before .before .before .before .before .before .before .before .before .before .n .given .1) (table-run (s .args .old .now)) (first .ensures) (c .before .before .before .before .before .before .before .before .before .before .refuse .ensures)
+    old-refused (s .args .old .now) (s .args .filling .now) (s .args .goal) (lent (s .args .tree .now) (s .args .goals .now) (s .args .props .now) (s .args .work .now) (s .args .edited .now)) _ _ x y (first .result) _ _ (c .before .before .before .before .before .before .before .before .before .before .before .before .before .before .before .before .before .e .given .1) (table-run (s .args .old .now)) (first .ensures) (c .before .before .before .before .before .before .before .before .before .before .refuse .ensures)
 
 same-length-6 : tie.Need-same-length-6
 same-length-6 c = search needs
@@ -109,7 +109,7 @@ fill-table-spec =
     tie.close
     (tie.spec
     check-table-requires
-    enum-known-n
+    enum-known-e
     refuse-requires
     enum-known-c
     fill-goal-requires

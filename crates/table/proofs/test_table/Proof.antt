@@ -15,15 +15,18 @@ long-enough c = length-take-le test-room (c .before .before .before .args .work 
 clear-requires : tie.Need-clear-requires
 clear-requires c κs = search needs
 
+new-requires : tie.Need-new-requires
+new-requires c κs = search needs
+
 same-length : tie.Need-same-length
 same-length c = search needs
 
 returns : tie.Need-returns
 returns c =
-    let cleared = c .before .before in
+    let cleared = c .before .before .before in
     let short = cleared .before .before in
     let a = short .before .before .before .args in
-    tested-short (a .purpose) (a .file .now) (a .work .now) _ (short .if1 .taken) (cleared .clear .ensures)
+    tested-short (a .purpose) (a .file .now) (a .work .now) _ _ (short .if1 .taken) (cleared .clear .ensures) (c .new .ensures)
 
 slice-relend-prefix-run-tests : tie.Need-slice-relend-prefix-run-tests
 slice-relend-prefix-run-tests c = search needs
@@ -55,6 +58,7 @@ test-table-spec =
     tie.close
     (tie.spec
     clear-requires
+    new-requires
     same-length
     returns
     slice-relend-prefix-run-tests

@@ -25,7 +25,7 @@ returns c = cc
 
 returns-2 : tie.Need-returns-2
 unfolding filled-record
-returns-2 c = c .refused .ensures ∙ ap (refused-record _ _) (c .before .table-number .ensures) ∙ ap filled-record (sym (c .before .before .before .f2 .given .1))
+returns-2 c = c .refused .ensures ∙ ap (refused-record _) (c .before .table-number .ensures) ∙ ap filled-record (sym (c .before .before .before .f2 .given .1))
 
 pub of-filled-spec : {M : Type 1} → statement M
 of-filled-spec =

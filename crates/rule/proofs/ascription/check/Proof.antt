@@ -1,6 +1,5 @@
-use Rattle.rule.proofs.Ascriptions.{as-given, as-place, as-resolve, held-unresolved, held-base, held-compare, held-ready, held-type, held-apart, held-done}
+use Rattle.rule.proofs.Ascriptions.{as-given, as-place, as-alone, as-resolve, held-unresolved, held-base, held-compare, held-ready, held-type, held-apart, held-done}
 use Rattle.step.proofs.Bounds.{base-header, base-count}
-use native.Mathlib.Omega.{arith}
 use borrow.Author.Needs.{needs}
 use Rattle.rule.proofs.ascription.check.Statement.{statement}
 use Rattle.rule.proofs.ascription.check.Tie as tie
@@ -54,7 +53,7 @@ same-length-2 : tie.Need-same-length-2
 same-length-2 c = search needs
 
 returns-3 : tie.Need-returns-3
-returns-3 c = λ tree goals. record { begins = λ rd. ((held-ready rd (c .before .before .before .before .before .before .before .before .before .before .before .before .before .before .before .before .before .before .before .before .before .pre .1 .1) _ (c .before .before .before .before .before .before .before .before .before .before .before .before .before .before .before .before .before .term-record .ensures) _ (c .before .before .before .before .before .before .before .before .before .before .before .before .before .before .before .before .annotation-of .ensures) _ (c .before .before .before .before .before .before .before .before .before .before .before .before .before .before .t .given .1) (c .before .before .before .before .before .before .before .before .before .before .before .before .before .before .before .before .before .before .before .before .before .args .wanted) (c .before .before .before .before .before .before .before .before .before .before .before .before .before .before .before .before .before .before .before .before .before .pre .1 .0) _ _ (c .before .before .before .before .before .before .before .before .before .before .before .resolve-type .ensures) _ _ (c .before .before .before .before .before .before .before .a .given .1), held-type rd (c .before .before .before .before .before .before .before .before .before .before .before .before .before .before .before .before .before .before .before .before .before .pre .1 .1) _ (c .before .before .before .before .before .before .before .before .before .before .before .before .before .before .before .before .before .term-record .ensures) _ (c .before .before .before .before .before .before .before .before .before .before .before .before .before .before .before .before .annotation-of .ensures) _ (c .before .before .before .before .before .before .before .before .before .before .before .before .before .before .t .given .1) (c .before .before .before .before .before .before .before .before .before .before .before .before .before .before .before .before .before .before .before .before .before .args .wanted) (c .before .before .before .before .before .before .before .before .before .before .before .before .before .before .before .before .before .before .before .before .before .pre .1 .0) _ _ (c .before .before .before .before .before .before .before .before .before .before .before .resolve-type .ensures) _ _ (c .before .before .before .before .before .before .before .a .given .1)), (as-place rd (c .before .before .before .before .before .before .before .before .before .before .before .before .before .before .before .before .before .before .before .before .before .pre .1 .1) _ (c .before .before .before .before .before .before .before .before .before .before .before .before .before .before .before .before .before .term-record .ensures) _ (c .before .before .before .before .before .before .before .before .before .before .before .before .before .before .before .before .annotation-of .ensures), omega arith), held-done rd (c .before .before .before .before .before .before .before .before .before .before .before .before .before .before .before .before .before .before .before .before .before .pre .1 .1) _ (c .before .before .before .before .before .before .before .before .before .before .before .before .before .before .before .before .before .term-record .ensures) _ (c .before .before .before .before .before .before .before .before .before .before .before .before .before .before .before .before .annotation-of .ensures) _ (c .before .before .before .before .before .before .before .before .before .before .before .before .before .before .t .given .1) (c .before .before .before .before .before .before .before .before .before .before .before .before .before .before .before .before .before .before .before .before .before .args .wanted) (c .before .before .before .before .before .before .before .before .before .before .before .before .before .before .before .before .before .before .before .before .before .pre .1 .0) _ _ (c .before .before .before .before .before .before .before .before .before .before .before .resolve-type .ensures) _ _ (c .before .before .before .before .before .before .before .a .given .1) _ (c .before .before .before .compare-types .ensures) _ (c .before .before .is-alpha .ensures) (c .before .if1 .taken)) }
+returns-3 c = λ tree goals. record { begins = λ rd. ((held-ready rd (c .before .before .before .before .before .before .before .before .before .before .before .before .before .before .before .before .before .before .before .before .before .pre .1 .1) _ (c .before .before .before .before .before .before .before .before .before .before .before .before .before .before .before .before .before .term-record .ensures) _ (c .before .before .before .before .before .before .before .before .before .before .before .before .before .before .before .before .annotation-of .ensures) _ (c .before .before .before .before .before .before .before .before .before .before .before .before .before .before .t .given .1) (c .before .before .before .before .before .before .before .before .before .before .before .before .before .before .before .before .before .before .before .before .before .args .wanted) (c .before .before .before .before .before .before .before .before .before .before .before .before .before .before .before .before .before .before .before .before .before .pre .1 .0) _ _ (c .before .before .before .before .before .before .before .before .before .before .before .resolve-type .ensures) _ _ (c .before .before .before .before .before .before .before .a .given .1), held-type rd (c .before .before .before .before .before .before .before .before .before .before .before .before .before .before .before .before .before .before .before .before .before .pre .1 .1) _ (c .before .before .before .before .before .before .before .before .before .before .before .before .before .before .before .before .before .term-record .ensures) _ (c .before .before .before .before .before .before .before .before .before .before .before .before .before .before .before .before .annotation-of .ensures) _ (c .before .before .before .before .before .before .before .before .before .before .before .before .before .before .t .given .1) (c .before .before .before .before .before .before .before .before .before .before .before .before .before .before .before .before .before .before .before .before .before .args .wanted) (c .before .before .before .before .before .before .before .before .before .before .before .before .before .before .before .before .before .before .before .before .before .pre .1 .0) _ _ (c .before .before .before .before .before .before .before .before .before .before .before .resolve-type .ensures) _ _ (c .before .before .before .before .before .before .before .a .given .1)), (as-place rd (c .before .before .before .before .before .before .before .before .before .before .before .before .before .before .before .before .before .before .before .before .before .pre .1 .1) _ (c .before .before .before .before .before .before .before .before .before .before .before .before .before .before .before .before .before .term-record .ensures) _ (c .before .before .before .before .before .before .before .before .before .before .before .before .before .before .before .before .annotation-of .ensures), as-alone rd (c .before .before .before .before .before .before .before .before .before .before .before .before .before .before .before .before .before .before .before .before .before .pre .1 .1) _ (c .before .before .before .before .before .before .before .before .before .before .before .before .before .before .before .before .before .term-record .ensures) _ (c .before .before .before .before .before .before .before .before .before .before .before .before .before .before .before .before .annotation-of .ensures)), held-done rd (c .before .before .before .before .before .before .before .before .before .before .before .before .before .before .before .before .before .before .before .before .before .pre .1 .1) _ (c .before .before .before .before .before .before .before .before .before .before .before .before .before .before .before .before .before .term-record .ensures) _ (c .before .before .before .before .before .before .before .before .before .before .before .before .before .before .before .before .annotation-of .ensures) _ (c .before .before .before .before .before .before .before .before .before .before .before .before .before .before .t .given .1) (c .before .before .before .before .before .before .before .before .before .before .before .before .before .before .before .before .before .before .before .before .before .args .wanted) (c .before .before .before .before .before .before .before .before .before .before .before .before .before .before .before .before .before .before .before .before .before .pre .1 .0) _ _ (c .before .before .before .before .before .before .before .before .before .before .before .resolve-type .ensures) _ _ (c .before .before .before .before .before .before .before .a .given .1) _ (c .before .before .before .compare-types .ensures) _ (c .before .before .is-alpha .ensures) (c .before .if1 .taken)) }
 
 same-length-3 : tie.Need-same-length-3
 same-length-3 c = search needs

@@ -1,5 +1,4 @@
-use Rattle.rule.proofs.Ascriptions.{as-given, as-place, as-resolve, found-unresolved, found-ready, found-type, found-done}
-use native.Mathlib.Omega.{arith}
+use Rattle.rule.proofs.Ascriptions.{as-given, as-place, as-alone, as-resolve, found-unresolved, found-ready, found-type, found-done}
 use borrow.Author.Needs.{needs}
 use Rattle.rule.proofs.ascription.synthesize.Statement.{statement}
 use Rattle.rule.proofs.ascription.synthesize.Tie as tie
@@ -41,7 +40,7 @@ same-length-2 : tie.Need-same-length-2
 same-length-2 c = search needs
 
 returns-3 : tie.Need-returns-3
-returns-3 c = λ tree goals. record { begins = λ rd. ((found-ready rd (c .before .before .before .before .before .before .before .before .before .before .before .before .before .before .before .before .pre .1) _ (c .before .before .before .before .before .before .before .before .before .before .before .before .term-record .ensures) _ (c .before .before .before .before .before .before .before .before .before .before .before .annotation-of .ensures) _ (c .before .before .before .before .before .before .before .before .before .t .given .1) _ _ (c .before .before .before .before .before .before .resolve-type .ensures) _ _ (c .before .before .a .given .1), found-type rd (c .before .before .before .before .before .before .before .before .before .before .before .before .before .before .before .before .pre .1) _ (c .before .before .before .before .before .before .before .before .before .before .before .before .term-record .ensures) _ (c .before .before .before .before .before .before .before .before .before .before .before .annotation-of .ensures) _ (c .before .before .before .before .before .before .before .before .before .t .given .1) _ _ (c .before .before .before .before .before .before .resolve-type .ensures) _ _ (c .before .before .a .given .1)), (as-place rd (c .before .before .before .before .before .before .before .before .before .before .before .before .before .before .before .before .pre .1) _ (c .before .before .before .before .before .before .before .before .before .before .before .before .term-record .ensures) _ (c .before .before .before .before .before .before .before .before .before .before .before .annotation-of .ensures), omega arith), found-done rd (c .before .before .before .before .before .before .before .before .before .before .before .before .before .before .before .before .pre .1) _ (c .before .before .before .before .before .before .before .before .before .before .before .before .term-record .ensures) _ (c .before .before .before .before .before .before .before .before .before .before .before .annotation-of .ensures) _ (c .before .before .before .before .before .before .before .before .before .t .given .1) _ _ (c .before .before .before .before .before .before .resolve-type .ensures) _ _ (c .before .before .a .given .1)) }
+returns-3 c = λ tree goals. record { begins = λ rd. ((found-ready rd (c .before .before .before .before .before .before .before .before .before .before .before .before .before .before .before .before .pre .1) _ (c .before .before .before .before .before .before .before .before .before .before .before .before .term-record .ensures) _ (c .before .before .before .before .before .before .before .before .before .before .before .annotation-of .ensures) _ (c .before .before .before .before .before .before .before .before .before .t .given .1) _ _ (c .before .before .before .before .before .before .resolve-type .ensures) _ _ (c .before .before .a .given .1), found-type rd (c .before .before .before .before .before .before .before .before .before .before .before .before .before .before .before .before .pre .1) _ (c .before .before .before .before .before .before .before .before .before .before .before .before .term-record .ensures) _ (c .before .before .before .before .before .before .before .before .before .before .before .annotation-of .ensures) _ (c .before .before .before .before .before .before .before .before .before .t .given .1) _ _ (c .before .before .before .before .before .before .resolve-type .ensures) _ _ (c .before .before .a .given .1)), (as-place rd (c .before .before .before .before .before .before .before .before .before .before .before .before .before .before .before .before .pre .1) _ (c .before .before .before .before .before .before .before .before .before .before .before .before .term-record .ensures) _ (c .before .before .before .before .before .before .before .before .before .before .before .annotation-of .ensures), as-alone rd (c .before .before .before .before .before .before .before .before .before .before .before .before .before .before .before .before .pre .1) _ (c .before .before .before .before .before .before .before .before .before .before .before .before .term-record .ensures) _ (c .before .before .before .before .before .before .before .before .before .before .before .annotation-of .ensures)), found-done rd (c .before .before .before .before .before .before .before .before .before .before .before .before .before .before .before .before .pre .1) _ (c .before .before .before .before .before .before .before .before .before .before .before .before .term-record .ensures) _ (c .before .before .before .before .before .before .before .before .before .before .before .annotation-of .ensures) _ (c .before .before .before .before .before .before .before .before .before .t .given .1) _ _ (c .before .before .before .before .before .before .resolve-type .ensures) _ _ (c .before .before .a .given .1)) }
 
 pub synthesize-spec : {M : Type 1} → statement M
 synthesize-spec = tie.close (tie.spec term-record-requires annotation-of-requires enum-known-t enum-told at-requires returns resolve-type-requires enum-known-e enum-known-a same-length returns-2 same-length-2 returns-3)

@@ -3,9 +3,6 @@ use borrow.Author.Needs.{needs}
 use Rattle.step.proofs.picture.picture.Statement.{statement}
 use Rattle.step.proofs.picture.picture.Tie as tie
 
-word-requires : tie.Need-word-requires
-word-requires c κs = search needs
-
 take-requires : tie.Need-take-requires
 take-requires c κs = search needs
 
@@ -15,12 +12,9 @@ same-length c = search needs
 returns : tie.Need-returns
 returns c = search pictured-taken
 
-same-length-2 : tie.Need-same-length-2
-same-length-2 c = search needs
-
 returns-2 : tie.Need-returns-2
 returns-2 c = search pictured-kept
 
 pub picture-spec : {M : Type 1} → statement M
 picture-spec =
-    tie.close (tie.spec word-requires take-requires same-length returns same-length-2 returns-2)
+    tie.close (tie.spec take-requires same-length returns returns-2)

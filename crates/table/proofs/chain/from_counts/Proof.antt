@@ -8,6 +8,9 @@ use Rattle.table.proofs.chain.from_counts.Tie as tie
 well-counted-requires : tie.Need-well-counted-requires
 well-counted-requires c κs = search needs
 
+new-requires : tie.Need-new-requires
+new-requires c κs = search needs
+
 returns : tie.Need-returns
 unfolding from-counts
 returns c = search fails
@@ -24,4 +27,4 @@ returns-2 c = search goes-on
 
 pub from-counts-spec : {M : Type 1} → statement M
 from-counts-spec =
-    tie.close (tie.spec well-counted-requires returns from-forms-requires same-length returns-2)
+    tie.close (tie.spec well-counted-requires new-requires returns from-forms-requires same-length returns-2)

@@ -7,6 +7,9 @@ use Rattle.table.proofs.chain.from_expected.Tie as tie
 well-aimed-requires : tie.Need-well-aimed-requires
 well-aimed-requires c κs = search needs
 
+new-requires : tie.Need-new-requires
+new-requires c κs = search needs
+
 returns : tie.Need-returns
 unfolding from-expected
 returns c = search fails
@@ -23,4 +26,4 @@ returns-2 c = search goes-on
 
 pub from-expected-spec : {M : Type 1} → statement M
 from-expected-spec =
-    tie.close (tie.spec well-aimed-requires returns from-links-requires same-length returns-2)
+    tie.close (tie.spec well-aimed-requires new-requires returns from-links-requires same-length returns-2)

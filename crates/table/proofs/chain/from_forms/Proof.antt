@@ -11,6 +11,9 @@ formless-requires c κs = search needs
 enum-known-i : tie.Need-enum-known-i
 enum-known-i c = search needs
 
+new-requires : tie.Need-new-requires
+new-requires c κs = search needs
+
 enum-told : tie.Need-enum-told
 enum-told c = search needs
 
@@ -34,6 +37,7 @@ from-forms-spec =
     (tie.spec
     formless-requires
     enum-known-i
+    new-requires
     enum-told
     from-expected-requires
     returns

@@ -10,6 +10,9 @@ open-goal-requires c κs = search needs
 enum-known-i : tie.Need-enum-known-i
 enum-known-i c = search needs
 
+new-requires : tie.Need-new-requires
+new-requires c κs = search needs
+
 enum-told : tie.Need-enum-told
 enum-told c = search needs
 
@@ -33,6 +36,7 @@ from-goal-spec =
     (tie.spec
     open-goal-requires
     enum-known-i
+    new-requires
     enum-told
     same-length
     returns

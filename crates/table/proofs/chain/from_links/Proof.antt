@@ -11,6 +11,9 @@ badly-linked-requires c κs = search needs
 enum-known-i : tie.Need-enum-known-i
 enum-known-i c = search needs
 
+new-requires : tie.Need-new-requires
+new-requires c κs = search needs
+
 enum-told : tie.Need-enum-told
 enum-told c = search needs
 
@@ -37,6 +40,7 @@ from-links-spec =
     (tie.spec
     badly-linked-requires
     enum-known-i
+    new-requires
     enum-told
     from-sizes-requires
     same-length

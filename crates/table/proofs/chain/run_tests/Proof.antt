@@ -8,6 +8,9 @@ use Rattle.table.proofs.chain.run_tests.Tie as tie
 well-marked-requires : tie.Need-well-marked-requires
 well-marked-requires c κs = search needs
 
+new-requires : tie.Need-new-requires
+new-requires c κs = search needs
+
 returns : tie.Need-returns
 unfolding tests
 returns c = search fails
@@ -24,4 +27,4 @@ returns-2 c = search goes-on
 
 pub run-tests-spec : {M : Type 1} → statement M
 run-tests-spec =
-    tie.close (tie.spec well-marked-requires returns from-counts-requires same-length returns-2)
+    tie.close (tie.spec well-marked-requires new-requires returns from-counts-requires same-length returns-2)

@@ -1,4 +1,4 @@
--- Document 01, "The rules" (names) and "Refusals" (30): what the answers of `resolve` say. Assumes nothing.
+-- Document 01, "The rules" (names) and "Refusal numbers" (30): what the answers of `resolve` say. Assumes nothing.
 use mathlib.Core.Path.{_≡_}
 use mathlib.Core.Bool.{Bool}
 use mathlib.Core.List.{List}

@@ -29,7 +29,7 @@ use Rattle.entry.specs.declared.Counts.{Counts}
 use Rattle.entry.specs.declared.Mark.{Mark}
 use Rattle.entry.specs.declared.Mark.the-variants as mark
 
--- THE LENT ROOMS ("Limits"): so many bytes of each are written, and none behind them
+-- THE LENT ROOMS ("Refusal numbers"): so many bytes of each are written, and none behind them
 abbrev pub tree-bytes : ℕ
 tree-bytes = 16 * most-nodes
 

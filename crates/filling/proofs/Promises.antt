@@ -32,15 +32,15 @@ use Rattle.step.specs.Contract.{told}
 use Rattle.step.proofs.Goals.{few-goals, goal-unique}
 use Rattle.entry.specs.declared.Counts.{Counts}
 use Rattle.entry.specs.Mark.{root-run, table-run}
-use Rattle.entry.specs.Promises.{SameTree}
+use Rattle.entry.specs.Promises.{Sorries, SameTree}
 use Rattle.entry.proofs.Answers.{table-ok}
-use Rattle.entry.proofs.Promises.{gap-term, same-tree}
+use Rattle.entry.proofs.Promises.{gap-term, sorries-are, same-tree}
 use Rattle.filling.specs.declared.answer.Which.{Which}
 use Rattle.filling.specs.declared.answer.Which.the-variants as which
 use Rattle.filling.specs.declared.answer.Filled.{Filled}
 use Rattle.filling.specs.declared.answer.Filled.the-variants as filled
 use Rattle.filling.specs.Fill.{Lent, all-long, Refuses, countsFrom, RunAs, EditedAs, Goal, GoalAs, FillingAs, OldAs, RoomsAs}
-use Rattle.filling.specs.Promises.{left-table, sorry-of, LeftEdited, LeavesEdited, SameIfFilled, TwoFillingsAgree}
+use Rattle.filling.specs.Promises.{left-table, sorry-of, LeftEdited, LeavesEdited, FilledSorries, SameIfFilled, TwoFillingsAgree}
 
 -- THE FIRST FOUR STAGES do not look at what the rooms hold. They refuse every filling of goal k with f alike, or find that goal in the old run
 abbrev Stage : Type 1
@@ -84,6 +84,10 @@ table-left : (l f e : List ℕ) (S : Lent) → length e ≡ edited-size l f → 
 table-left l f e S size h = ap (λ (n : ℕ). take n (S .edited)) (sym size) ∙ h
 
 -- AN ACCEPTED FILLING
+abbrev goals-in : Counts → Filled → ℕ
+goals-in d (filled.Accepted c) = c .goals
+goals-in d (filled.Refused u w) = d .goals
+
 module _ (l f : List ℕ) (k : ℕ) (S S' : Lent) (c : Counts) where
   not-refused : {A : Type 0} {u : Refusal} {w : Which} → Refuses S S' u w (filled.Accepted c) → A
   not-refused x = absurd (let y = x .answer in let z : _≡_ {A = ℕ} 0 1 = cc in omega arith)
@@ -95,6 +99,15 @@ module _ (l f : List ℕ) (k : ℕ) (S S' : Lent) (c : Counts) where
   kept : (e : List ℕ) (g : Gap) (v : Verdict) → EditedAs S S' e g (filled.Accepted c) v → (v ≡ verdict.Passes) × (take (length e) (S' .edited) ≡ e)
   kept e g (verdict.Refused u) x = not-refused x
   kept e g verdict.Passes x = (refl, kept-run e g (at-goal (termAt e (g .term)) g) x)
+
+  sorries-run : (e : List ℕ) (g : Gap) (o : Out Answer) → at-goal (termAt e (g .term)) g ≡ o → RunAs S S' e g (filled.Accepted c) o → Sorries (termAt e (g .term)) (S' .rooms) c
+  sorries-run e g (stop s) h x = not-refused x
+  sorries-run e g (ok b st) h x =
+      sorries-are e (S' .rooms) _ (termAt e (g .term)) (b .tree) c (goals-in-order (termAt e (g .term)) _ _ _ b st h) (ap (goals-in c) (x .answer)) (x .rooms .holds .trees)
+
+  sorries-edit : (e : List ℕ) (g : Gap) (v : Verdict) → EditedAs S S' e g (filled.Accepted c) v → Sorries (termAt e (g .term)) (S' .rooms) c
+  sorries-edit e g (verdict.Refused u) x = not-refused x
+  sorries-edit e g verdict.Passes x = sorries-run e g (at-goal (termAt e (g .term)) g) refl x
 
   module _ (a : Answer) (st : St) (run : root-run l ≡ ok a st) (z : Goal S S' l f k a (filled.Accepted c)) where
     there : k < length (sorries (termAt l 0))
@@ -119,6 +132,20 @@ module _ (l f : List ℕ) (k : ℕ) (S S' : Lent) (c : Counts) where
           good = edited-good h (z .edited) (y .0);
           means = subst (λ (q : ℕ). StandsFor l f q (z .table)) sorry-is (edited-stands-for l f (z .goal .term) (z .table) h (z .edited));
         }
+
+    sorries-left : Sorries (termAt (left-table l f S') (sorry-of l k)) (S' .rooms) c
+    sorries-left =
+        let y = kept (z .table) (z .goal) (edited-tests (z .table)) (z .answer) in
+        let e = table-left l f (z .table) S' (z .edited .size) (y .1) in
+        subst⁻¹ (λ (e : List ℕ). Sorries (termAt e (sorry-of l k)) (S' .rooms) c) e
+        (subst (λ (q : ℕ). Sorries (termAt (z .table) q) (S' .rooms) c) sorry-is (sorries-edit (z .table) (z .goal) (edited-tests (z .table)) (z .answer)))
+
+pub filled-sorries : FilledSorries
+filled-sorries l f k S S' c x = at (by-rooms l f k (all-long S))
+  where
+    at : Alike l f k (λ T T' r. RoomsAs T T' l f k r (all-long S)) → Sorries (termAt (left-table l f S') (sorry-of l k)) (S' .rooms) c
+    at (inl y) = not-refused l f k S S' c (y .so S S' (filled.Accepted c) x)
+    at (inr y) = sorries-left l f k S S' c (y .answer) (y .state) (y .run) (y .so S S' (filled.Accepted c) x)
 
 pub leaves-edited : LeavesEdited
 leaves-edited l f k S S' c x = at (by-rooms l f k (all-long S))

@@ -10,7 +10,7 @@ use Rattle.table.specs.Reading.{termAt}
 use Rattle.editing.specs.Edited.{edited-size, Bytes, Edited}
 use Rattle.editing.specs.Renumbered.{StandsFor}
 use Rattle.entry.specs.declared.Counts.{Counts}
-use Rattle.entry.specs.Promises.{SameTree}
+use Rattle.entry.specs.Promises.{Sorries, SameTree}
 use Rattle.filling.specs.declared.answer.Filled.{Filled}
 use Rattle.filling.specs.declared.answer.Filled.the-variants as filled
 use Rattle.filling.specs.Fill.{Lent, all-long, Fills}
@@ -33,6 +33,12 @@ pub record LeftEdited (l f : List ℕ) (k : ℕ) (e : List ℕ) : Type 0 where
 
 abbrev pub LeavesEdited : Type 0
 LeavesEdited = (l f : List ℕ) (k : ℕ) (S S' : Lent) (c : Counts) → Fills S S' l f k (filled.Accepted c) → LeftEdited l f k (left-table l f S')
+
+-- ITS GOALS are the filling's Sorrys, where that stands in the edited table
+abbrev pub FilledSorries : Type 0
+FilledSorries =
+    (l f : List ℕ) (k : ℕ) (S S' : Lent) (c : Counts) → Fills S S' l f k (filled.Accepted c)
+    → Sorries (termAt (left-table l f S') (sorry-of l k)) (S' .rooms) c
 
 -- TWO FILLINGS OF ONE GOAL WITH THE SAME BYTES AGREE, whatever the rooms held: in the answer, and after an acceptance in the edited table's bytes, in the
 -- filling's tree and goals, and in the edited table's propositions, as two checks of it would (what stands behind these is settled by `Fills`)

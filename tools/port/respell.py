@@ -13,8 +13,7 @@ import re
 import sys
 
 WORD = r"[^\s(){}.;,@\"«»`]+"
-HEAD = re.compile(rf"^(?:(?:pub|abbrev|unfoldable|record|data|ruleset) )*({WORD})(?= *(?:[({{][^:=]*)?:(?: |$))", re.M)
-FIELD = re.compile(rf"^  (?:pub )?({WORD}(?: {WORD})*) : ", re.M)
+HEAD = re.compile(rf"^ *(?:(?:pub|abbrev|unfoldable|record|data|ruleset) )*((?:(?![-λ]){WORD} )+)(?=(?:[({{][^:=\n]*)?:(?: |$))", re.M)
 ALIAS = re.compile(rf"\b({WORD}) as ({WORD})")
 USE = re.compile(r"\buse ([^\s;{]+?)\.?(?:\{([^}]*)\})")
 OURS = re.compile(r"Rattle\.(?!std\.|core\.|io\.|libc\.|os\.)")
@@ -46,9 +45,8 @@ def main():
     for f in files:
         if f in walks:
             continue
-        declared.update(HEAD.findall(texts[f]))
-        for it in FIELD.findall(texts[f]):
-            fields.update(it.split())
+        for it in HEAD.finditer(texts[f]):
+            (fields if it[0][0] == " " else declared).update(it[1].split())
     names = {it for it in declared | fields if turned(it) != it}
     taken = {}
     for it in sorted(declared | fields):
@@ -60,6 +58,17 @@ def main():
     rule = lambda some: re.compile("(?<![\\w'·◌-])(?:" + "|".join(sorted(map(re.escape, some), key=len, reverse=True)) + ")(?![\\w'·◌-])")
     every, after_dot = rule(names), re.compile("(?<!\\.)" + rule(names).pattern)
     only_fields = re.compile(r"(?<=\.)" + rule(names & fields).pattern)
+    # Edits and pages were not turned by port.py, so they may have names in either older spelling.
+    now = {turned(it) for it in declared | fields}
+    any_word = re.compile(WORD)
+
+    def told(m):
+        if not re.search(r"[a-zA-Z].*[-A-Z_′]|_.+_", m[0]):
+            return m[0]
+        new = turned(m[0].replace("′", "'"))
+        operator = m[0].replace("_", "◌")
+        return new if new in now else operator if operator in now else m[0]
+
     check = "--check" in sys.argv
     others = sorted(glob.glob("crates/*/src/**/*.rt", recursive=True) + glob.glob("crates/*/must-fail/*.edit"))
     pages = sorted(glob.glob("docs/**/*.md", recursive=True) + ["README.md"])
@@ -72,7 +81,9 @@ def main():
                 theirs.update(re.findall(WORD, items))
         turn = lambda m: m[0] if m[0] in theirs else turned(m[0])
         if f in pages:
-            new = re.sub(r"`[^`\n]+`", lambda m: every.sub(turn, m[0]), old)
+            new = re.sub(r"`[^`\n]+`", lambda m: any_word.sub(told, m[0]), old)
+        elif f.endswith(".edit"):
+            new = any_word.sub(told, old)
         elif f in walks:
             new = only_fields.sub(turn, after_dot.sub(turn, old))
         else:

@@ -1,4 +1,4 @@
-__ Copies of a proposition: parameters, atoms, and records put after those that are there. Assumes nothing.
+-- Copies of a proposition: parameters, atoms, and records put after those that are there. Assumes nothing.
 use mathlib.Core.Path.{◌≡◌, refl, ap, sym, subst, subst⁻¹, ◌∙◌}
 use mathlib.Core.Bool.{Bool, true}
 use mathlib.Core.List.{List, [], ◌∷◌}
@@ -38,39 +38,39 @@ use Rattle.prop.proofs.Counts.{size_some}
 use Rattle.prop.proofs.Atoms.{join, atom_of, form_of}
 use Rattle.prop.proofs.Places.{changed_atom, one_changed, changed_form, changed_params}
 
-__ ONE PARAMETER, by what is in its place
+-- ONE PARAMETER, by what is in its place
 module _ (s : Serial) (d : ℕ) (p : Parameter) where
   module _ (k : ℕ) (e : p ≡ Bound k) where
-    pub put-hit : k ≡ d → Identifier s ≡ becomes (put_at s.0 d) p
+    pub put_hit : k ≡ d → Identifier s ≡ becomes (put_at s.0 d) p
     unfolding put_at
-    put-hit h = rw (e, h, eq-eqb d d refl)
+    put_hit h = rw (e, h, eq-eqb d d refl)
 
-    pub put-miss : (k ≡ d → ⊥) → Bound k ≡ becomes (put_at s.0 d) p
+    pub put_miss : (k ≡ d → ⊥) → Bound k ≡ becomes (put_at s.0 d) p
     unfolding put_at
-    put-miss h = rw (e, ne_eqb k d h)
+    put_miss h = rw (e, ne_eqb k d h)
 
   module _ (i : Serial) (e : p ≡ Identifier i) where
-    pub bind-hit : i.0 ≡ s.0 → Bound d ≡ becomes (bind_at s.0 d) p
+    pub bind_hit : i.0 ≡ s.0 → Bound d ≡ becomes (bind_at s.0 d) p
     unfolding bind_at
-    bind-hit h = rw (e, h, eq-eqb s.0 s.0 refl)
+    bind_hit h = rw (e, h, eq-eqb s.0 s.0 refl)
 
-    pub bind-miss : (i.0 ≡ s.0 → ⊥) → Identifier i ≡ becomes (bind_at s.0 d) p
+    pub bind_miss : (i.0 ≡ s.0 → ⊥) → Identifier i ≡ becomes (bind_at s.0 d) p
     unfolding bind_at
-    bind-miss h = rw (e, ne_eqb i.0 s.0 h)
+    bind_miss h = rw (e, ne_eqb i.0 s.0 h)
 
 module _ (w : List ℕ) (n : ℕ) (p : Parameter) where
   module _ (x : Name) (e : p ≡ Free x) (r : Found) (l : Latest w n x.0 r) where
-    settle-name : (o : Option Entry) → find x.0 (names w n) ≡ o → coded (settle_as x.0 o) ≡ becomes (settle (names w n)) p
+    settle_name : (o : Option Entry) → find x.0 (names w n) ≡ o → coded (settle_as x.0 o) ≡ becomes (settle (names w n)) p
     unfolding settle
-    settle-name o f = rw (e, f)
+    settle_name o f = rw (e, f)
 
-    pub settle-held : (y : Held) → r ≡ here.Held y → Identifier y.serial ≡ becomes (settle (names w n)) p
+    pub settle_held : (y : Held) → r ≡ here.Held y → Identifier y.serial ≡ becomes (settle (names w n)) p
     unfolding settle_as
-    settle-held y q = settle-name _ (held_finds _ l q)
+    settle_held y q = settle_name _ (held_finds _ l q)
 
-    pub settle-nothing : r ≡ here.Nothing → Free x ≡ becomes (settle (names w n)) p
+    pub settle_nothing : r ≡ here.Nothing → Free x ≡ becomes (settle (names w n)) p
     unfolding settle_as
-    settle-nothing q = settle-name _ (nothing_finds _ l q)
+    settle_nothing q = settle_name _ (nothing_finds _ l q)
 
   pub settle_identifier : (i : Serial) → p ≡ Identifier i → Free (record { 0 = i.0 }) ≡ becomes (settle (names w n)) p
   unfolding settle
@@ -95,7 +95,7 @@ module _ (w : List ℕ) (d : ℕ) (p q : Parameter) (change : Change) where
 pub settle_room : (w : List ℕ) (change : Change) (n : ℕ) → change ≡ to.Resolve n → ChangeIn w change → 8 * n ≤ length w
 settle_room w change n e h = subst (ChangeIn w) e h
 
-__ AN ATOM
+-- AN ATOM
 module _ (h : Param → Param) (r : Record) (K : prop_kind r.kind ≡ atomic) (form : room_form r ≡ true) where
   changed_is : AtomIs h r (changed_atom h r)
   unfolding with_parameters
@@ -110,7 +110,7 @@ module _ (h : Param → Param) (r : Record) (K : prop_kind r.kind ≡ atomic) (f
       → AtomIs h r o
   atom_of_one p q o few e f g = atom_changed o (one_changed h r p q o few e f g)
 
-__ ONE RECORD MORE, in a room that kept the first c
+-- ONE RECORD MORE, in a room that kept the first c
 pub one_word : (c : ℕ) → c < most_records → c + 1 < 65536
 unfolding limit
 one_word c h = omega arith
@@ -135,25 +135,25 @@ module _ {old mid new : List ℕ} {c e : ℕ} {q : Record} {o : Copied} (k : ℕ
         means = λ tables l. ap (room_at tables new) g.0 ∙ room_put ok g.2 form links room tables ∙ means tables l;
       }
 
-__ the links of a record of a known kind
+-- the links of a record of a known kind
 pub links_as : (ok : ℕ → Bool) (q : Record) (K : PropKind) → prop_kind q.kind ≡ K → all_links ok (prop_children (prop_shape K).children q) ≡ true → all_links ok (prop_links q) ≡ true
 links_as ok q K e h = subst⁻¹ (λ (K : PropKind). all_links ok (prop_children (prop_shape K).children q) ≡ true) e h
 
-__ `copy`, in the order of its code
+-- `copy`, in the order of its code
 module _ (old : List ℕ) (c n : ℕ) (ok : Arena old c) (k : n < c) (fit : (tables : ℕ) → c + size (room_at tables old n) ≤ most_records) where
   pub one_fits : c < most_records
   one_fits = omega (arith, fit 0, size_some (room_at 0 old n))
 
   module _ (long : 16 * most_records ≤ length old) (r : Record) (er : r ≡ record_at old n) where
-    pub form-here : room_form r ≡ true
-    form-here = subst⁻¹ (λ (s : Record). room_form s ≡ true) er (ok.each n k).form
+    pub form_here : room_form r ≡ true
+    form_here = subst⁻¹ (λ (s : Record). room_form s ≡ true) er (ok.each n k).form
 
-    pub copy-constant : r.kind < 2 → (d : ℕ) (h : ℕ → Param → Param) (new : List ℕ) (o : Copied) → MoreIs old c r new o → CopiedIs old c n h d new o
+    pub copy_constant : r.kind < 2 → (d : ℕ) (h : ℕ → Param → Param) (new : List ℕ) (o : Copied) → MoreIs old c r new o → CopiedIs old c n h d new o
     unfolding node walk size all_links prop_children prop_shape
-    copy-constant g d h new o m =
+    copy_constant g d h new o m =
         let v = kind_constant r.kind g in
         let whole = stands old c n ok k r er (constant v.0) v.1 in
-        top _ _ ok (λ i l. refl) (omega arith) refl one_fits long form-here (links_as (λ m. ltb m c) r (constant v.0) v.1 refl)
+        top _ _ ok (λ i l. refl) (omega arith) refl one_fits long form_here (links_as (λ m. ltb m c) r (constant v.0) v.1 refl)
         (λ tables. ap (λ (P : Prop). c + size P) (sym (whole tables)))
         (λ tables l.
         ap (λ (K : PropKind). node tables c (room_at tables old) K r) v.1
@@ -161,16 +161,16 @@ module _ (old : List ℕ) (c n : ℕ) (ok : Arena old c) (k : n < c) (fit : (tab
         ∙ ap (walk copy h d) (sym (whole tables)))
         m
 
-    __ an atom
+    -- an atom
     module _ (g : 7 ≤ r.kind) where
-      pub is-atomic : prop_kind r.kind ≡ atomic
-      is-atomic = kind_atomic r.kind g (subst⁻¹ (λ (s : Record). s.kind < 8) er (kind_known (ok.each n k)))
+      pub is_atomic : prop_kind r.kind ≡ atomic
+      is_atomic = kind_atomic r.kind g (subst⁻¹ (λ (s : Record). s.kind < 8) er (kind_known (ok.each n k)))
 
-      pub copy-atom : (d : ℕ) (h : ℕ → Param → Param) (q : Record) → AtomIs (h d) r q → (new : List ℕ) (o : Copied) → MoreIs old c q new o → CopiedIs old c n h d new o
+      pub copy_atom : (d : ℕ) (h : ℕ → Param → Param) (q : Record) → AtomIs (h d) r q → (new : List ℕ) (o : Copied) → MoreIs old c q new o → CopiedIs old c n h d new o
       unfolding node walk size all_links prop_children prop_shape
-      copy-atom d h q a new o m =
-          let whole = stands old c n ok k r er atomic is-atomic in
-          let K : prop_kind q.kind ≡ atomic = ap prop_kind a.kind ∙ is-atomic in
+      copy_atom d h q a new o m =
+          let whole = stands old c n ok k r er atomic is_atomic in
+          let K : prop_kind q.kind ≡ atomic = ap prop_kind a.kind ∙ is_atomic in
           top _ _ ok (λ i l. refl) (omega arith) refl one_fits long a.form (links_as (λ m. ltb m c) q atomic K refl)
           (λ tables. ap (λ (P : Prop). c + size P) (sym (whole tables)))
           (λ tables l.
@@ -179,78 +179,78 @@ module _ (old : List ℕ) (c n : ℕ) (ok : Arena old c) (k : n < c) (fit : (tab
           ∙ ap (walk copy h d) (sym (whole tables)))
           m
 
-    __ two parts
+    -- two parts
     module _ (lo : 2 ≤ r.kind) (hi : r.kind < 5) where
       abbrev joined : (l : Link) × (prop_kind r.kind ≡ linked l)
       joined = kind_linked r.kind lo hi
 
-      link-whole : (tables : ℕ) → room_at tables old n ≡ link (origin tables n) joined.0 (room_at tables old r.a) (room_at tables old r.b)
+      link_whole : (tables : ℕ) → room_at tables old n ≡ link (origin tables n) joined.0 (room_at tables old r.a) (room_at tables old r.b)
       unfolding node
-      link-whole tables = stands old c n ok k r er (linked joined.0) joined.1 tables
+      link_whole tables = stands old c n ok k r er (linked joined.0) joined.1 tables
 
-      link-size : (tables : ℕ) → size (room_at tables old n) ≡ 1 + (size (room_at tables old r.a) + size (room_at tables old r.b))
+      link_size : (tables : ℕ) → size (room_at tables old n) ≡ 1 + (size (room_at tables old r.a) + size (room_at tables old r.b))
       unfolding size
-      link-size tables = ap size (link-whole tables)
+      link_size tables = ap size (link_whole tables)
 
       first_under : r.a < n
       first_under = (at_linked old c n ok k r er lo hi).1.first
 
-      second-under : r.b < n
-      second-under = (at_linked old c n ok k r er lo hi).1.second
+      second_under : r.b < n
+      second_under = (at_linked old c n ok k r er lo hi).1.second
 
-      pub first-deep : (d : ℕ) → d + n ≤ largest → d + r.a ≤ largest
-      first-deep d h = omega (arith, first_under)
+      pub first_deep : (d : ℕ) → d + n ≤ largest → d + r.a ≤ largest
+      first_deep d h = omega (arith, first_under)
 
-      pub second-deep : (d : ℕ) → d + n ≤ largest → d + r.b ≤ largest
-      second-deep d h = omega (arith, second-under)
+      pub second_deep : (d : ℕ) → d + n ≤ largest → d + r.b ≤ largest
+      second_deep d h = omega (arith, second_under)
 
-      pub first-room : (tables : ℕ) → c + size (room_at tables old r.a) ≤ most_records
-      first-room tables = omega (arith, fit tables, link-size tables)
+      pub first_room : (tables : ℕ) → c + size (room_at tables old r.a) ≤ most_records
+      first_room tables = omega (arith, fit tables, link_size tables)
 
       module _ (d : ℕ) (h : ℕ → Param → Param) (mid : List ℕ) (o₁ : Copied) (i₁ : CopiedIs old c r.a h d mid o₁) where
-        pub first-arena : Arena mid o₁.count
-        first-arena = i₁.arena
+        pub first_arena : Arena mid o₁.count
+        first_arena = i₁.arena
 
-        pub second-there : r.b < o₁.count
-        second-there = omega (arith, second-under, i₁.count 0)
+        pub second_there : r.b < o₁.count
+        second_there = omega (arith, second_under, i₁.count 0)
 
         right : (tables : ℕ) → room_at tables mid r.b ≡ room_at tables old r.b
-        right tables = room_same mid ok i₁.same tables r.b (omega (arith, second-under))
+        right tables = room_same mid ok i₁.same tables r.b (omega (arith, second_under))
 
-        pub second-room : (tables : ℕ) → o₁.count + size (room_at tables mid r.b) ≤ most_records
-        second-room tables = omega (arith, fit tables, link-size tables, i₁.count tables, ap size (right tables))
+        pub second_room : (tables : ℕ) → o₁.count + size (room_at tables mid r.b) ≤ most_records
+        second_room tables = omega (arith, fit tables, link_size tables, i₁.count tables, ap size (right tables))
 
-        pub first-long : 16 * most_records ≤ length mid
-        first-long = omega (arith, i₁.long)
+        pub first_long : 16 * most_records ≤ length mid
+        first_long = omega (arith, i₁.long)
 
         module _ (last : List ℕ) (o₂ : Copied) (i₂ : CopiedIs mid o₁.count r.b h d last o₂) where
-          link-count : (tables : ℕ) → o₂.count + 1 ≡ c + size (room_at tables old n)
-          link-count tables = omega (arith, link-size tables, i₁.count tables, i₂.count tables, ap size (right tables))
+          link_count : (tables : ℕ) → o₂.count + 1 ≡ c + size (room_at tables old n)
+          link_count tables = omega (arith, link_size tables, i₁.count tables, i₂.count tables, ap size (right tables))
 
           pub link_fits : o₂.count < most_records
-          link_fits = omega (arith, fit 0, link-count 0)
+          link_fits = omega (arith, fit 0, link_count 0)
 
-          pub second-long : 16 * most_records ≤ length last
-          second-long = omega (arith, i₁.long, i₂.long)
+          pub second_long : 16 * most_records ≤ length last
+          second_long = omega (arith, i₁.long, i₂.long)
 
           abbrev parent : Record
           parent = record { kind = r.kind; count = 0; a = o₁.at.0; b = o₂.at.0; c = 0; parameters = 0 ∷ 0 ∷ 0 ∷ 0 ∷ [] }
 
-          parent-form : room_form parent ≡ true
+          parent_form : room_form parent ≡ true
           unfolding room_form form_as prop_form prop_shape
-          parent-form = subst⁻¹ (λ (K : PropKind). form_as K parent ≡ true) joined.1 (subst⁻¹ (λ (K : PropKind). in_prop_shape (prop_shape K) parent ≡ true) joined.1 refl)
+          parent_form = subst⁻¹ (λ (K : PropKind). form_as K parent ≡ true) joined.1 (subst⁻¹ (λ (K : PropKind). in_prop_shape (prop_shape K) parent ≡ true) joined.1 refl)
 
-          parent-links : all_links (λ m. ltb m o₂.count) (prop_links parent) ≡ true
+          parent_links : all_links (λ m. ltb m o₂.count) (prop_links parent) ≡ true
           unfolding all_links prop_children prop_shape
-          parent-links =
+          parent_links =
               links_as (λ m. ltb m o₂.count) parent (linked joined.0) joined.1
               (join _ _ (lt-ltb o₁.at.0 o₂.count (omega (arith, i₁.below, i₂.count 0))) (join _ _ (lt-ltb o₂.at.0 o₂.count i₂.below) refl))
 
-          pub copy-link : (new : List ℕ) (o : Copied) → MoreIs last o₂.count parent new o → CopiedIs old c n h d new o
+          pub copy_link : (new : List ℕ) (o : Copied) → MoreIs last o₂.count parent new o → CopiedIs old c n h d new o
           unfolding node walk
-          copy-link new o m =
+          copy_link new o m =
               top _ _ i₂.arena (λ i l. i₂.same i (omega (arith, i₁.count 0)) ∙ i₁.same i l) (omega (arith, i₁.count 0, i₂.count 0)) (i₂.long ∙ i₁.long)
-              link_fits long parent-form parent-links link-count
+              link_fits long parent_form parent_links link_count
               (λ tables l.
               let a : room_at tables last o₁.at.0 ≡ walk copy h d (room_at tables old r.a) =
               room_same last i₁.arena i₂.same tables o₁.at.0 i₁.below ∙ i₁.means tables l in
@@ -258,66 +258,66 @@ module _ (old : List ℕ) (c n : ℕ) (ok : Arena old c) (k : n < c) (fit : (tab
               i₂.means tables (omega (arith, i₁.count 0)) ∙ ap (walk copy h d) (right tables) in
               ap (λ (K : PropKind). node tables o₂.count (room_at tables last) K parent) joined.1
               ∙ (λ i. link (made_here tables o₂.count (omega (arith, i₁.count 0, i₂.count 0)) i) joined.0 (a i) (b i))
-              ∙ ap (walk copy h d) (sym (link-whole tables)))
+              ∙ ap (walk copy h d) (sym (link_whole tables)))
               m
 
-    __ a body
+    -- a body
     module _ (lo : 5 ≤ r.kind) (hi : r.kind < 7) where
       abbrev bound_by : (q : Quant) × (prop_kind r.kind ≡ quantified q)
       bound_by = kind_quantified r.kind lo hi
 
-      quant-whole : (tables : ℕ) → room_at tables old n ≡ quant (origin tables n) bound_by.0 r.a r.b (room_at tables old r.c)
+      quant_whole : (tables : ℕ) → room_at tables old n ≡ quant (origin tables n) bound_by.0 r.a r.b (room_at tables old r.c)
       unfolding node
-      quant-whole tables = stands old c n ok k r er (quantified bound_by.0) bound_by.1 tables
+      quant_whole tables = stands old c n ok k r er (quantified bound_by.0) bound_by.1 tables
 
-      quant-size : (tables : ℕ) → size (room_at tables old n) ≡ 1 + size (room_at tables old r.c)
+      quant_size : (tables : ℕ) → size (room_at tables old n) ≡ 1 + size (room_at tables old r.c)
       unfolding size
-      quant-size tables = ap size (quant-whole tables)
+      quant_size tables = ap size (quant_whole tables)
 
       under : r.c < n
       under = (at_quantified old c n ok k r er lo hi).1.under
 
-      pub deeper-fits : (d : ℕ) → d + n ≤ largest → d + 1 < 65536
-      deeper-fits d h = omega (arith, under)
+      pub deeper_fits : (d : ℕ) → d + n ≤ largest → d + 1 < 65536
+      deeper_fits d h = omega (arith, under)
 
-      pub body-deep : (d : ℕ) → d + n ≤ largest → d + 1 + r.c ≤ largest
-      body-deep d h = omega (arith, under)
+      pub body_deep : (d : ℕ) → d + n ≤ largest → d + 1 + r.c ≤ largest
+      body_deep d h = omega (arith, under)
 
-      pub body-room : (tables : ℕ) → c + size (room_at tables old r.c) ≤ most_records
-      body-room tables = omega (arith, fit tables, quant-size tables)
+      pub body_room : (tables : ℕ) → c + size (room_at tables old r.c) ≤ most_records
+      body_room tables = omega (arith, fit tables, quant_size tables)
 
       module _ (d : ℕ) (h : ℕ → Param → Param) (mid : List ℕ) (o₁ : Copied) (i₁ : CopiedIs old c r.c h (d + 1) mid o₁) where
-        quant-count : (tables : ℕ) → o₁.count + 1 ≡ c + size (room_at tables old n)
-        quant-count tables = omega (arith, quant-size tables, i₁.count tables)
+        quant_count : (tables : ℕ) → o₁.count + 1 ≡ c + size (room_at tables old n)
+        quant_count tables = omega (arith, quant_size tables, i₁.count tables)
 
-        pub quant-fits : o₁.count < most_records
-        quant-fits = omega (arith, fit 0, quant-count 0)
+        pub quant_fits : o₁.count < most_records
+        quant_fits = omega (arith, fit 0, quant_count 0)
 
-        pub body-long : 16 * most_records ≤ length mid
-        body-long = omega (arith, i₁.long)
+        pub body_long : 16 * most_records ≤ length mid
+        body_long = omega (arith, i₁.long)
 
         abbrev binder : Record
         binder = record { kind = r.kind; count = 0; a = r.a; b = r.b; c = o₁.at.0; parameters = 0 ∷ 0 ∷ 0 ∷ 0 ∷ [] }
 
-        binder-form : room_form binder ≡ true
+        binder_form : room_form binder ≡ true
         unfolding room_form form_as prop_form prop_shape
-        binder-form = subst⁻¹ (λ (K : PropKind). form_as K binder ≡ true) bound_by.1 (subst⁻¹ (λ (K : PropKind). in_prop_shape (prop_shape K) binder ≡ true) bound_by.1 refl)
+        binder_form = subst⁻¹ (λ (K : PropKind). form_as K binder ≡ true) bound_by.1 (subst⁻¹ (λ (K : PropKind). in_prop_shape (prop_shape K) binder ≡ true) bound_by.1 refl)
 
-        binder-links : all_links (λ m. ltb m o₁.count) (prop_links binder) ≡ true
+        binder_links : all_links (λ m. ltb m o₁.count) (prop_links binder) ≡ true
         unfolding all_links prop_children prop_shape
-        binder-links =
+        binder_links =
             links_as (λ m. ltb m o₁.count) binder (quantified bound_by.0) bound_by.1
             (join _ _ (lt-ltb o₁.at.0 o₁.count i₁.below) refl)
 
-        pub copy-quant : (new : List ℕ) (o : Copied) → MoreIs mid o₁.count binder new o → CopiedIs old c n h d new o
+        pub copy_quant : (new : List ℕ) (o : Copied) → MoreIs mid o₁.count binder new o → CopiedIs old c n h d new o
         unfolding node walk
-        copy-quant new o m =
+        copy_quant new o m =
             let deeper : d + 1 ≡ suc d = omega arith in
-            top _ _ i₁.arena i₁.same (omega (arith, i₁.count 0)) i₁.long quant-fits long binder-form binder-links quant-count
+            top _ _ i₁.arena i₁.same (omega (arith, i₁.count 0)) i₁.long quant_fits long binder_form binder_links quant_count
             (λ tables l.
             let b : room_at tables mid o₁.at.0 ≡ walk copy h (suc d) (room_at tables old r.c) =
             i₁.means tables l ∙ ap (λ (j : ℕ). walk copy h j (room_at tables old r.c)) deeper in
             ap (λ (K : PropKind). node tables o₁.count (room_at tables mid) K binder) bound_by.1
             ∙ (λ i. quant (made_here tables o₁.count (omega (arith, i₁.count 0)) i) bound_by.0 r.a r.b (b i))
-            ∙ ap (walk copy h d) (sym (quant-whole tables)))
+            ∙ ap (walk copy h d) (sym (quant_whole tables)))
             m

@@ -1,4 +1,4 @@
-__ A table's propositions put into their room: parameters, atoms, records, and what the room then stands for. Assumes nothing.
+-- A table's propositions put into their room: parameters, atoms, records, and what the room then stands for. Assumes nothing.
 use mathlib.Core.Path.{◌≡◌, refl, ap, sym, subst, subst⁻¹, ◌∙◌}
 use mathlib.Core.Bool.{true, false, ◌&&◌}
 use mathlib.Core.List.{List, [], ◌∷◌, map}
@@ -35,7 +35,7 @@ use Rattle.prop.proofs.Views.{kind_atomic}
 use Rattle.prop.proofs.Atoms.{split, form_of}
 use Rattle.prop.proofs.Places.{changed_form, changed_params}
 
-__ ONE PARAMETER, as it was settled
+-- ONE PARAMETER, as it was settled
 module _ (l : List ℕ) (n : ℕ) (p : Parameter) (x : Name) (e : p ≡ Free x) (o : Settled) (f : param_of x.0 o ≡ settled x.0 0 (binders l n)) where
   as_settled : (q : Settled) → o ≡ q → coded (param_of x.0 q) ≡ becomes (named l n) p
   unfolding named
@@ -48,7 +48,7 @@ module _ (l : List ℕ) (n : ℕ) (p : Parameter) (x : Name) (e : p ≡ Free x) 
   pub load_bound : (k : ℕ) → o ≡ settled-as.Bound k → Bound k ≡ becomes (named l n) p
   load_bound k g = as_settled (settled-as.Bound k) g
 
-__ A RECORD of either sort
+-- A RECORD of either sort
 loaded_same : (l : List ℕ) (n k : ℕ) (r : Record) → (k ≡ 7 → ⊥) → loaded_as l n (prop_kind k) r ≡ r
 unfolding prop_kind prop_kinds loaded_as
 loaded_same l n zero r h = refl
@@ -72,7 +72,7 @@ module _ (l : List ℕ) (n : ℕ) (r : Record) (er : r ≡ prop_record l n) wher
   pub record_other : (r.kind ≡ 7 → ⊥) → r ≡ loaded_record l n
   record_other h = sym (loaded_same l n r.kind r h) ∙ ap (loaded_from l n) er
 
-__ the first n of four names
+-- the first n of four names
 names_only : (r : Record) → r.b ≡ 0
     → params r
     ≡ take r.count (free (get_or r.parameters 0 0) ∷ free (get_or r.parameters 1 0) ∷ free (get_or r.parameters 2 0) ∷ free (get_or r.parameters 3 0) ∷ [])
@@ -95,7 +95,7 @@ first_few g (suc (suc (suc zero))) (a ∷ b ∷ c ∷ d ∷ []) k h = refl
 first_few g (suc (suc (suc (suc zero)))) (a ∷ b ∷ c ∷ d ∷ []) k h = refl
 first_few g (suc (suc (suc (suc (suc n))))) (a ∷ b ∷ c ∷ d ∷ []) k h = absurd (omega arith)
 
-__ THE FORM that test 4 asks for
+-- THE FORM that test 4 asks for
 counts_in : (r : Record) (K : PropKind) → prop_kind r.kind ≡ K → prop_form r ≡ true → ((prop_shape K).least ≤ r.count) × (r.count ≤ (prop_shape K).most)
 unfolding prop_form
 counts_in r K e f =
@@ -112,7 +112,7 @@ names_alone r e f =
     let c = split (eqb r.b 0) (eqb r.c 0) (split (eqb r.b 0 && eqb r.c 0) _ b.1).0 in
     (eqb-true r.b 0 c.0, eqb-true r.c 0 c.1)
 
-__ RECORD r of the table, number n
+-- RECORD r of the table, number n
 module _ (l : List ℕ) (n : ℕ) (r : Record) where
   params_are : r.count ≤ 4 → r.b ≡ 0 → length r.parameters ≡ 4
       → params (loaded_atom l n r) ≡ map (λ x. settled x 0 (binders l n)) (take r.count r.parameters)
@@ -120,7 +120,7 @@ module _ (l : List ℕ) (n : ℕ) (r : Record) where
   params_are few bare four =
       changed_params (named l n) r ∙ ap (λ (xs : List Param). map (named l n) xs) (names_only r bare) ∙ first_few (named l n) r.count r.parameters few four
 
-  __ its kind and its children stay
+  -- its kind and its children stay
   kind_kept : (K : PropKind) → (loaded_as l n K r).kind ≡ r.kind
   unfolding loaded_as with_parameters
   kind_kept (constant b) = refl
@@ -141,7 +141,7 @@ module _ (l : List ℕ) (n : ℕ) (r : Record) where
   links_same =
       ap (λ (k : ℕ). prop_children (prop_shape (prop_kind k)).children (loaded_from l n r)) (kind_kept (prop_kind r.kind)) ∙ links_kept (prop_kind r.kind)
 
-  __ its form is the room's
+  -- its form is the room's
   form_kept : prop_form r ≡ true → (K : PropKind) → prop_kind r.kind ≡ K → room_form (loaded_as l n K r) ≡ true
   unfolding loaded_as with_parameters room_form form_as prop_shape
   form_kept f (constant b) e = subst⁻¹ (λ (K : PropKind). form_as K r ≡ true) e f
@@ -150,7 +150,7 @@ module _ (l : List ℕ) (n : ℕ) (r : Record) where
   form_kept f atomic e = form_of (loaded_atom l n r) e (changed_form (named l n) r (counts_in r atomic e f).1 (names_alone r e f).1)
   form_kept f strange e = absurd (omega (arith, counts_in r strange e f))
 
-  __ what it stands for is the table's, if that is so of its children
+  -- what it stands for is the table's, if that is so of its children
   reads_as : (tables : ℕ) (sub sub' : ℕ → Prop) → origin tables n ≡ table n → prop_form r ≡ true → length r.parameters ≡ 4 → (K : PropKind) → prop_kind r.kind ≡ K
       → ((m : ℕ) → 0 < hits m (prop_children (prop_shape K).children r) → sub m ≡ sub' m) → node tables n sub K (loaded_as l n K r) ≡ prop_of l n sub' K r
   unfolding loaded_as with_parameters node prop_of prop_shape prop_children
@@ -161,7 +161,7 @@ module _ (l : List ℕ) (n : ℕ) (r : Record) where
   reads_as tables sub sub' o f four atomic e s = λ i. atom (o i) r.a (params_are (counts_in r atomic e f).1 (names_alone r e f).0 four i)
   reads_as tables sub sub' o f four strange e s = ap (λ (p : Origin). const p false) o
 
-__ THE LOOP, in the order of its code: n of p records are there
+-- THE LOOP, in the order of its code: n of p records are there
 pub record Turn (l : List ℕ) (p n : ℕ) (old new : List ℕ) : Type 0 where
   pub so : Loading l n old new
   pub within : n ≤ p
@@ -185,7 +185,7 @@ turn_step l p n old w new r t k e put =
     at m (inl q) = subst⁻¹ (λ (m : ℕ). record_at new m ≡ loaded_record l m) q (put.here ∙ e)
     at m (inr h) = put.others m (omega arith) ∙ t.so.records m h
 
-__ A ROOM with all the records of a table that passed
+-- A ROOM with all the records of a table that passed
 table_here : (tables n : ℕ) → n < tables → origin tables n ≡ table n
 unfolding origin
 table_here tables n h = rw (lt-ltb n tables h)

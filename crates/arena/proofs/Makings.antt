@@ -1,4 +1,4 @@
-__ Propositions made where they are still allowed. Assumes nothing.
+-- Propositions made where they are still allowed. Assumes nothing.
 use mathlib.Core.Path.{◌≡◌, refl, ap, sym, subst⁻¹, ◌∙◌}
 use mathlib.Core.Bool.{Bool, true, false, and-eq-true_iff}
 use mathlib.Core.List.{List, [], ◌∷◌}
@@ -27,7 +27,7 @@ use Rattle.prop.proofs.Views.{kind_linked}
 use Rattle.prop.proofs.Counts.{counted_within, counted_over}
 use Rattle.arena.proofs.Copies.{made_here, top, links_as}
 
-__ ONE RECORD
+-- ONE RECORD
 module _ (old new : List ℕ) (c left : ℕ) where
   pub made_one : (q : Record) (o : Copied) → Arena old c → room_form q ≡ true → all_links (λ m. ltb m c) (prop_links q) ≡ true → c + left ≤ most_records
       → 16 * most_records ≤ length old → (left ≡ 0 → ⊥) → MoreIs old c q new o
@@ -35,14 +35,14 @@ module _ (old new : List ℕ) (c left : ℕ) where
   made_one q o ok form links lim long some m =
       ((λ t. omega arith), top _ _ ok (λ i l. refl) (omega arith) refl (omega arith) long form links (λ t. refl) (λ t l. refl) m)
 
-  __ what the new number stands for, said in another way
+  -- what the new number stands for, said in another way
   made_as : (k : ℕ → ℕ) (P Q : ℕ → Prop) (r : Made) → ((tables : ℕ) → tables ≤ c → P tables ≡ Q tables) → MadeIs old c left k P new r → MadeIs old c left k Q new r
   made_as k P Q (At m e) f g =
       let h = g.1 in
       (g.0, record { count = h.count; below = h.below; arena = h.arena; same = h.same; long = h.long; means = λ t l. h.means t l ∙ f t l })
   made_as k P Q Full f g = g
 
-__ TRUE AND FALSE
+-- TRUE AND FALSE
 pub true_kind : (kind : ℕ) (b : Bool) → b ≡ true → kind ≡ 0 → prop_kind kind ≡ constant b
 unfolding prop_kind prop_kinds
 true_kind kind b e f = ap prop_kind f ∙ ap constant (sym e)
@@ -69,7 +69,7 @@ module _ (kind : ℕ) (b : Bool) (e : prop_kind kind ≡ constant b) where
       made_as old new c left _ _ _ r
       (λ t h. ap (λ (K : PropKind). node t c (room_at t old) K leaf) e ∙ ap (λ (o : Origin). const o b) (made_here t c h))
 
-__ A LINK
+-- A LINK
 module _ (kind a b : ℕ) where
   abbrev joint : Record
   joint = record { kind = kind; count = 0; a = a; b = b; c = 0; parameters = 0 ∷ 0 ∷ 0 ∷ 0 ∷ [] }
@@ -78,13 +78,13 @@ module _ (kind a b : ℕ) where
     abbrev joined : (l : Link) × (prop_kind kind ≡ linked l)
     joined = kind_linked kind lo hi
 
-    pub joint-form : room_form joint ≡ true
+    pub joint_form : room_form joint ≡ true
     unfolding room_form form_as prop_form prop_shape
-    joint-form = subst⁻¹ (λ (K : PropKind). form_as K joint ≡ true) joined.1 (subst⁻¹ (λ (K : PropKind). in_prop_shape (prop_shape K) joint ≡ true) joined.1 refl)
+    joint_form = subst⁻¹ (λ (K : PropKind). form_as K joint ≡ true) joined.1 (subst⁻¹ (λ (K : PropKind). in_prop_shape (prop_shape K) joint ≡ true) joined.1 refl)
 
-    pub joint-links : (c : ℕ) → a < c → b < c → all_links (λ m. ltb m c) (prop_links joint) ≡ true
+    pub joint_links : (c : ℕ) → a < c → b < c → all_links (λ m. ltb m c) (prop_links joint) ≡ true
     unfolding all_links prop_children prop_shape
-    joint-links c i j =
+    joint_links c i j =
         links_as (λ m. ltb m c) joint (linked joined.0) joined.1 ((and-eq-true_iff _ _).1 (lt-ltb a c i, (and-eq-true_iff _ _).1 (lt-ltb b c j, refl)))
 
   pub made_link : (old new : List ℕ) (c left : ℕ) (r : Made) → OneIs old c left joint new r → (l : Link) → prop_kind kind ≡ linked l → LinkIs l old c left a b new r
@@ -94,7 +94,7 @@ module _ (kind a b : ℕ) where
       (λ t h. ap (λ (K : PropKind). node t c (room_at t old) K joint) e ∙ ap (λ (o : Origin). link o l (room_at t old a) (room_at t old b)) (made_here t c h))
       g
 
-__ COPIES, after their nodes were counted
+-- COPIES, after their nodes were counted
 module _ (old : List ℕ) (c n left : ℕ) (o : Nodes) (eo : (tables : ℕ) → o ≡ counted (size (room_at tables old n)) left) where
   pub over_all : o ≡ Over → (tables : ℕ) → left < size (room_at tables old n)
   over_all e tables = counted_over (size (room_at tables old n)) left (sym (eo tables) ∙ e)
@@ -103,46 +103,46 @@ module _ (old : List ℕ) (c n left : ℕ) (o : Nodes) (eo : (tables : ℕ) → 
   over_more e tables = omega (arith, over_all e tables)
 
   module _ (k : ℕ) (e : o ≡ Within k) where
-    is-counted : (tables : ℕ) → (k ≡ size (room_at tables old n)) × (size (room_at tables old n) ≤ left)
-    is-counted tables = counted_within (size (room_at tables old n)) left k (sym (eo tables) ∙ e)
+    is_counted : (tables : ℕ) → (k ≡ size (room_at tables old n)) × (size (room_at tables old n) ≤ left)
+    is_counted tables = counted_within (size (room_at tables old n)) left k (sym (eo tables) ∙ e)
 
     pub none_over : k ≡ left → (tables : ℕ) → left < size (room_at tables old n) + 1
-    none_over z tables = omega (arith, is-counted tables)
+    none_over z tables = omega (arith, is_counted tables)
 
-    pub made-put : (v : List ℕ) (s : Serial) (new : List ℕ) (p : Copied) → CopiedIs old c n (changed v (to.Put s)) 0 new p → PutIs old c left n s.0 new (At p.at p.count)
+    pub made_put : (v : List ℕ) (s : Serial) (new : List ℕ) (p : Copied) → CopiedIs old c n (changed v (to.Put s)) 0 new p → PutIs old c left n s.0 new (At p.at p.count)
     unfolding put changed
-    made-put v s new p i = ((λ t. (is-counted t).1), i)
+    made_put v s new p i = ((λ t. (is_counted t).1), i)
 
     module _ (lim : c + left ≤ most_records) where
       pub copy_fits : (tables : ℕ) → c + size (room_at tables old n) ≤ most_records
-      copy_fits tables = omega (arith, is-counted tables)
+      copy_fits tables = omega (arith, is_counted tables)
 
-      __ the quantifier's record on top
+      -- the quantifier's record on top
       module _ (some : k ≡ left → ⊥) (long : 16 * most_records ≤ length old) (s : Serial) (mid : List ℕ) (p : Copied)
           (v : List ℕ) (i : CopiedIs old c n (changed v (to.Bind s)) 0 mid p) where
-        pub top-fits : p.count < most_records
-        top-fits = omega (arith, i.count 0, is-counted 0)
+        pub top_fits : p.count < most_records
+        top_fits = omega (arith, i.count 0, is_counted 0)
 
-        pub top-long : 16 * most_records ≤ length mid
-        top-long = omega (arith, i.long)
+        pub top_long : 16 * most_records ≤ length mid
+        top_long = omega (arith, i.long)
 
         module _ (x D : ℕ) where
           abbrev binder : Record
           binder = record { kind = 5; count = 0; a = x; b = D; c = p.at.0; parameters = 0 ∷ 0 ∷ 0 ∷ 0 ∷ [] }
 
-          binder-form : room_form binder ≡ true
+          binder_form : room_form binder ≡ true
           unfolding room_form form_as prop_form prop_shape prop_kind prop_kinds
-          binder-form = refl
+          binder_form = refl
 
-          binder-links : all_links (λ m. ltb m p.count) (prop_links binder) ≡ true
+          binder_links : all_links (λ m. ltb m p.count) (prop_links binder) ≡ true
           unfolding all_links prop_children prop_shape prop_kind prop_kinds
-          binder-links = (and-eq-true_iff _ _).1 (lt-ltb p.at.0 p.count i.below, refl)
+          binder_links = (and-eq-true_iff _ _).1 (lt-ltb p.at.0 p.count i.below, refl)
 
-          pub made-forall : (new : List ℕ) (q : Copied) → MoreIs mid p.count binder new q → ForAllIs old c left x D s.0 n new (At q.at q.count)
+          pub made_forall : (new : List ℕ) (q : Copied) → MoreIs mid p.count binder new q → ForAllIs old c left x D s.0 n new (At q.at q.count)
           unfolding node bind changed prop_kind prop_kinds
-          made-forall new q m = (
-            (λ t. omega (arith, is-counted t)),
-            top _ _ i.arena i.same (omega (arith, i.count 0)) i.long top-fits long binder-form binder-links
+          made_forall new q m = (
+            (λ t. omega (arith, is_counted t)),
+            top _ _ i.arena i.same (omega (arith, i.count 0)) i.long top_fits long binder_form binder_links
                 (λ t. omega (arith, i.count t))
                 (λ t l. λ j. quant (made_here t p.count (omega (arith, i.count 0)) j) all x D (i.means t l j))
                 m,

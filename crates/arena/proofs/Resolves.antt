@@ -1,4 +1,4 @@
-__ Resolving: names known and unknown, and what `resolve` answers. Assumes nothing.
+-- Resolving: names known and unknown, and what `resolve` answers. Assumes nothing.
 use mathlib.Core.Path.{◌≡◌, refl, ap, sym, subst⁻¹, ◌∙◌}
 use mathlib.Core.Bool.{Bool, true, false, ◌&&◌, not, cond}
 use mathlib.Core.List.{List}
@@ -39,20 +39,20 @@ use Rattle.prop.proofs.Views.{at_constant, at_linked, at_quantified, at_atomic}
 use Rattle.prop.proofs.Counts.{counted_within, counted_over}
 use Rattle.prop.proofs.Occurs.{not_not, each_deep}
 
-__ ONE PARAMETER, by what is in its place
+-- ONE PARAMETER, by what is in its place
 module _ (w : List ℕ) (n : ℕ) (p : Parameter) where
   module _ (x : Name) (e : p ≡ Free x) (r : Found) (l : Latest w n x.0 r) where
-    known-name : (o : Option Entry) → find x.0 (names w n) ≡ o → known_in o ≡ passes (known (names w n)) p
+    known_name : (o : Option Entry) → find x.0 (names w n) ≡ o → known_in o ≡ passes (known (names w n)) p
     unfolding known
-    known-name o f = rw (e, f)
+    known_name o f = rw (e, f)
 
-    pub known-held : (y : Held) → r ≡ here.Held y → true ≡ passes (known (names w n)) p
+    pub known_held : (y : Held) → r ≡ here.Held y → true ≡ passes (known (names w n)) p
     unfolding known_in
-    known-held y q = known-name _ (held_finds _ l q)
+    known_held y q = known_name _ (held_finds _ l q)
 
-    pub known-nothing : r ≡ here.Nothing → false ≡ passes (known (names w n)) p
+    pub known_nothing : r ≡ here.Nothing → false ≡ passes (known (names w n)) p
     unfolding known_in
-    known-nothing q = known-name _ (nothing_finds _ l q)
+    known_nothing q = known_name _ (nothing_finds _ l q)
 
   pub known_identifier : (i : Serial) → p ≡ Identifier i → false ≡ passes (known (names w n)) p
   unfolding known
@@ -62,7 +62,7 @@ module _ (w : List ℕ) (n : ℕ) (p : Parameter) where
   unfolding known
   known_bound k e = rw e
 
-__ `all_known`, in the order of its code
+-- `all_known`, in the order of its code
 module _ (old : List ℕ) (c n : ℕ) (ok : Arena old c) (k : n < c) (w : List ℕ) (len : ℕ) (r : Record) (er : r ≡ record_at old n) where
   abbrev known_at : ℕ → ℕ → Bool
   known_at tables m = all_known w len (room_at tables old m)
@@ -87,13 +87,13 @@ module _ (old : List ℕ) (c n : ℕ) (ok : Arena old c) (k : n < c) (w : List �
   known_link lo hi tables = ap (all_known w len) ((at_linked old c n ok k r er lo hi).1.whole tables)
 
   module _ (lo : 2 ≤ r.kind) (hi : r.kind < 5) (b : Bool) (eb : (tables : ℕ) → b ≡ known_at tables r.a) where
-    pub known-first : b ≡ false → (tables : ℕ) → false ≡ known_at tables n
-    known-first e tables = sym (known_link lo hi tables ∙ ap (λ (x : Bool). x && known_at tables r.b) (sym (eb tables) ∙ e))
+    pub known_first : b ≡ false → (tables : ℕ) → false ≡ known_at tables n
+    known_first e tables = sym (known_link lo hi tables ∙ ap (λ (x : Bool). x && known_at tables r.b) (sym (eb tables) ∙ e))
 
-    pub known-second : b ≡ true → (d : Bool) → ((tables : ℕ) → d ≡ known_at tables r.b) → (tables : ℕ) → d ≡ known_at tables n
-    known-second e d ed tables = ed tables ∙ sym (known_link lo hi tables ∙ ap (λ (x : Bool). x && known_at tables r.b) (sym (eb tables) ∙ e))
+    pub known_second : b ≡ true → (d : Bool) → ((tables : ℕ) → d ≡ known_at tables r.b) → (tables : ℕ) → d ≡ known_at tables n
+    known_second e d ed tables = ed tables ∙ sym (known_link lo hi tables ∙ ap (λ (x : Bool). x && known_at tables r.b) (sym (eb tables) ∙ e))
 
-__ RESOLVING asks for an entry's serial, and not for its type
+-- RESOLVING asks for an entry's serial, and not for its type
 module _ (f g : Sort → Ty) (w : List ℕ) {A : Type 0} (h : Option Entry → A) (q : (e : Held) → h (some (stands f e)) ≡ h (some (stands g e))) where
   either : (b : Bool) (e : Held) (o u : Option Entry) → h o ≡ h u → h (cond b (some (stands f e)) o) ≡ h (cond b (some (stands g e)) u)
   either true e o u p = q e
@@ -122,7 +122,7 @@ module _ (f g : Sort → Ty) (w : List ℕ) (n : ℕ) where
   resolve_any (prop P) = λ i. cond (each (λ d x. known_any x i) 0 P) (some (prop (walk copy (λ d x. settle_any x i) 0 P))) none
   resolve_any (datatype D) = refl
 
-__ `resolve`, in the order of its code
+-- `resolve`, in the order of its code
 pub deep_fits : (c left n : ℕ) → n < c → c + left ≤ most_records → 0 + n ≤ largest
 unfolding limit
 deep_fits c left n h l = omega arith
@@ -154,38 +154,38 @@ module _ (old : List ℕ) (c left : ℕ) (w : List ℕ) (n : ℕ) (t : Sort) (ok
     settled tables = walk copy (λ d. settle (names w n)) 0 (room_at tables old p.0)
 
     module _ (b : Bool) (eb : (tables : ℕ) → b ≡ all_known w n (room_at tables old p.0)) where
-      resolved-if : (f : Sort → Ty) (tables : ℕ) (v : Bool) → b ≡ v → resolve (ctx_at f w n) (type_at tables old t) ≡ cond v (some (prop (settled tables))) none
+      resolved_if : (f : Sort → Ty) (tables : ℕ) (v : Bool) → b ≡ v → resolve (ctx_at f w n) (type_at tables old t) ≡ cond v (some (prop (settled tables))) none
       unfolding resolve all_known
-      resolved-if f tables v h =
+      resolved_if f tables v h =
           resolve_any f _ w n (type_at tables old t)
           ∙ ap (λ (s : Sort). resolve (names w n) (type_at tables old s)) e
           ∙ ap (λ (v : Bool). cond v (some (prop (settled tables))) none) (sym (eb tables) ∙ h)
 
-      pub name-unknown : not b ≡ true → ResolvedIs old c left w n t old is.Unknown
-      name-unknown h = (refl, λ f tables. resolved-if f tables false (sym (not_not b) ∙ ap not h))
+      pub name_unknown : not b ≡ true → ResolvedIs old c left w n t old is.Unknown
+      name_unknown h = (refl, λ f tables. resolved_if f tables false (sym (not_not b) ∙ ap not h))
 
       module _ (h : not b ≡ false) (m : Nodes) (em : (tables : ℕ) → m ≡ counted (size (room_at tables old p.0)) left) where
-        known-all : (f : Sort → Ty) (tables : ℕ) → resolve (ctx_at f w n) (type_at tables old t) ≡ some (prop (settled tables))
-        known-all f tables = resolved-if f tables true (sym (not_not b) ∙ ap not h)
+        known_all : (f : Sort → Ty) (tables : ℕ) → resolve (ctx_at f w n) (type_at tables old t) ≡ some (prop (settled tables))
+        known_all f tables = resolved_if f tables true (sym (not_not b) ∙ ap not h)
 
-        settled-size : (tables : ℕ) → size (settled tables) ≡ size (room_at tables old p.0)
-        settled-size tables = size_walk copy (λ d. settle (names w n)) 0 (room_at tables old p.0)
+        settled_size : (tables : ℕ) → size (settled tables) ≡ size (room_at tables old p.0)
+        settled_size tables = size_walk copy (λ d. settle (names w n)) 0 (room_at tables old p.0)
 
         pub too_many : m ≡ nodes.Over → ResolvedIs old c left w n t old is.Full
         unfolding size_ty
-        too_many q = (refl, λ f tables. (prop (settled tables), known-all f tables, omega (arith, counted_over _ left (sym (em tables) ∙ q), settled-size tables)))
+        too_many q = (refl, λ f tables. (prop (settled tables), known_all f tables, omega (arith, counted_over _ left (sym (em tables) ∙ q), settled_size tables)))
 
         module _ (s : ℕ) (q : m ≡ nodes.Within s) where
-          pub name-known : (new : List ℕ) (o : Copied) → CopiedIs old c p.0 (changed w (to.Resolve n)) 0 new o
+          pub name_known : (new : List ℕ) (o : Copied) → CopiedIs old c p.0 (changed w (to.Resolve n)) 0 new o
               → ResolvedIs old c left w n t new (is.To (type.Proposition o.at) o.count)
           unfolding changed size_ty
-          name-known new o i =
+          name_known new o i =
               record {
-                count = λ tables l. omega (arith, i.count tables, settled-size tables, ap size (i.means tables l));
+                count = λ tables l. omega (arith, i.count tables, settled_size tables, ap size (i.means tables l));
                 within = omega (arith, few old p.0 left m em s q 0, i.count 0);
                 below = i.below;
                 arena = i.arena;
                 same = i.same;
                 long = i.long;
-                means = λ f tables l. known-all f tables ∙ ap (λ (P : Prop). some (prop P)) (sym (i.means tables l));
+                means = λ f tables l. known_all f tables ∙ ap (λ (P : Prop). some (prop P)) (sym (i.means tables l));
               }

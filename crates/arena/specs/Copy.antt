@@ -1,4 +1,4 @@
-__ Copies of a proposition, its parameters changed. Assumes nothing.
+-- Copies of a proposition, its parameters changed. Assumes nothing.
 use Rattle.std.specs.Prelude.{◌≡◌, true, List, map, ℕ, ◌+◌, ◌*◌, ◌<◌, ◌≤◌, length}
 use Rattle.numbers.specs.declared.record.Record.{Record}
 use Rattle.numbers.specs.Limits.{most_propositions}
@@ -12,38 +12,38 @@ use Rattle.arena.specs.declared.copy.Change.TheVariants as to
 use Rattle.arena.specs.declared.copy.Copied.{Copied}
 use Rattle.prop.specs.Room.{params, room_at, room_form, Arena}
 
-__ the room's records: a table's, and as many as a run may make
+-- the room's records: a table's, and as many as a run may make
 abbrev pub most_records : ℕ
 most_records = most_propositions + limit
 
-__ the first n entries of the work room as resolving asks for them: by name and serial, of whatever type
+-- the first n entries of the work room as resolving asks for them: by name and serial, of whatever type
 abbrev pub names : List ℕ → ℕ → Ctx
 names w n = ctx_at (λ t. datatype 0) w n
 
-__ what becomes of a parameter below d quantifiers
+-- what becomes of a parameter below d quantifiers
 unfoldable pub changed : List ℕ → Change → ℕ → Param → Param
 changed w (to.Put s) = put_at s.0
 changed w (to.Bind s) = bind_at s.0
 changed w (to.Resolve n) = λ d. settle (names w n)
 
-__ the entries that a change reads are in the work room
+-- the entries that a change reads are in the work room
 abbrev pub ChangeIn : List ℕ → Change → Type 0
 ChangeIn w (to.Put s) = Unit {0}
 ChangeIn w (to.Bind s) = Unit {0}
 ChangeIn w (to.Resolve n) = 8 * n ≤ length w
 
-__ q is the atom r with its parameters changed
+-- q is the atom r with its parameters changed
 pub record AtomIs (h : Param → Param) (r q : Record) : Type 0 where
   pub kind : q.kind ≡ r.kind
   pub predicate : q.a ≡ r.a
   pub form : room_form q ≡ true
   pub means : params q ≡ map h (params r)
 
-__ one record more
+-- one record more
 abbrev pub MoreIs : List ℕ → ℕ → Record → List ℕ → Copied → Type 0
 MoreIs old c r new o = (o.at.0 ≡ c) × (o.count ≡ c + 1) × Put old c r new
 
-__ number m stands for P, in k records more, from c up to e; below c nothing changes. P and k may depend on how many records are the table's
+-- number m stands for P, in k records more, from c up to e; below c nothing changes. P and k may depend on how many records are the table's
 pub record Makes (old : List ℕ) (c : ℕ) (k : ℕ → ℕ) (P : ℕ → Prop) (new : List ℕ) (m e : ℕ) : Type 0 where
   pub count : (tables : ℕ) → e ≡ c + k tables
   pub below : m < e
@@ -52,7 +52,7 @@ pub record Makes (old : List ℕ) (c : ℕ) (k : ℕ → ℕ) (P : ℕ → Prop)
   pub long : length new ≡ length old
   pub means : (tables : ℕ) → tables ≤ c → room_at tables new m ≡ P tables
 
-__ number m stands for the copy of what n stands for, all of it made
+-- number m stands for the copy of what n stands for, all of it made
 abbrev pub IsCopy : (old : List ℕ) (c n : ℕ) (h : ℕ → Param → Param) (d : ℕ) (new : List ℕ) (m e : ℕ) → Type 0
 IsCopy old c n h d new m e = Makes old c (λ t. size (room_at t old n)) (λ t. walk copy h d (room_at t old n)) new m e
 

@@ -1,4 +1,4 @@
-__ Document 01, "The rules" (names) and "Refusal numbers" (30): what the answers of `resolve` say. Assumes nothing.
+-- Document 01, "The rules" (names) and "Refusal numbers" (30): what the answers of `resolve` say. Assumes nothing.
 use Rattle.std.specs.Prelude.{◌≡◌, Bool, List, ℕ, ◌+◌, ◌<◌, ◌≤◌, length}
 use Rattle.std.proofs.Math.Option.{none, some}
 use Rattle.numbers.specs.declared.Sort.{Sort}
@@ -11,12 +11,12 @@ use Rattle.arena.specs.declared.resolve.Resolved.TheVariants as is
 use Rattle.prop.specs.Room.{type_at, TypeIn, Arena}
 use Rattle.arena.specs.Copy.{names}
 
-__ the names of a proposition are all known
+-- the names of a proposition are all known
 unfoldable pub all_known : List ℕ → ℕ → Prop → Bool
 all_known w n P = each (λ d. known (names w n)) 0 P
 
-__ u is the type t resolved in the context of the first n entries of the work room w. All its nodes are made, from c up to e and at most `left` of
-__ them; below c nothing changes. What the entries' types stand for (f) does not matter
+-- u is the type t resolved in the context of the first n entries of the work room w. All its nodes are made, from c up to e and at most `left` of
+-- them; below c nothing changes. What the entries' types stand for (f) does not matter
 pub record ResolvesTo (old : List ℕ) (c left : ℕ) (w : List ℕ) (n : ℕ) (t : Sort) (new : List ℕ) (u : Sort) (e : ℕ) : Type 0 where
   pub count : (tables : ℕ) → tables ≤ c → e ≡ c + size_ty (type_at tables new u)
   pub within : e ≤ c + left
@@ -26,7 +26,7 @@ pub record ResolvesTo (old : List ℕ) (c left : ℕ) (w : List ℕ) (n : ℕ) (
   pub long : length new ≡ length old
   pub means : (f : Sort → Ty) (tables : ℕ) → tables ≤ c → resolve (ctx_at f w n) (type_at tables old t) ≡ some (type_at tables new u)
 
-__ what the answers say: the resolved type; or a name is unknown; or all are known, and there would be too many nodes
+-- what the answers say: the resolved type; or a name is unknown; or all are known, and there would be too many nodes
 abbrev pub ResolvedIs : (old : List ℕ) (c left : ℕ) (w : List ℕ) (n : ℕ) (t : Sort) (new : List ℕ) → Resolved → Type 0
 ResolvedIs old c left w n t new (is.To u e) = ResolvesTo old c left w n t new u e
 ResolvedIs old c left w n t new is.Unknown = (new ≡ old) × ((f : Sort → Ty) (tables : ℕ) → resolve (ctx_at f w n) (type_at tables old t) ≡ none)

@@ -1,2 +1,2 @@
-__ What the proof of the cycle uses.
+-- What the proof of the cycle uses.
 pub mod Turns

@@ -1,5 +1,5 @@
-__ Laws of the context: callers cite these, and not the definitions' text.
-__ Assumes nothing.
+-- Laws of the context: callers cite these, and not the definitions' text.
+-- Assumes nothing.
 use mathlib.Core.Path.{◌≡◌, refl, ap, ap₂, sym, subst, subst⁻¹, ◌∙◌}
 use mathlib.Core.List.{List, [], ◌∷◌}
 use mathlib.Core.Option.{none, some}
@@ -20,7 +20,7 @@ use Rattle.context.specs.declared.identifier_context.Found.{Found}
 use Rattle.context.specs.declared.identifier_context.Found.TheVariants.{Held, Nothing}
 use Rattle.context.specs.Context.{tag_of, number_of, sort_of, entry_at, SameEntries, Inserted, stands, ctx_at, found, Among, Latest}
 
-__ TYPES as two numbers, and back
+-- TYPES as two numbers, and back
 pub sort_data : (t n : ℕ) → (t ≡ 0 → ⊥) → Datatype (record { 0 = n }) ≡ sort_of t n
 sort_data zero n h = absurd (h refl)
 sort_data (suc t) n h = refl
@@ -29,7 +29,7 @@ sort_back : (s : Sort) → sort_of (tag_of s) (number_of s) ≡ s
 sort_back (Proposition p) = refl
 sort_back (Datatype d) = refl
 
-__ BYTES. An entry is what its eight bytes say
+-- BYTES. An entry is what its eight bytes say
 pub entry_kept : (old new : List ℕ) (m : ℕ) → ((i : ℕ) → 8 * m ≤ i → i < 8 * m + 8 → get_or new i 0 ≡ get_or old i 0) → entry_at new m ≡ entry_at old m
 unfolding entry_at
 entry_kept old new m h =
@@ -41,14 +41,14 @@ entry_kept old new m h =
     let w₆ = w (8 * m + 6) (omega arith) (omega arith) in
     λ k. record { name = record { 0 = w₀ k }; serial = record { 0 = w₂ k }; typ = sort_of (w₄ k) (w₆ k) }
 
-__ the four words one by one, as `entry_at` reads them
+-- the four words one by one, as `entry_at` reads them
 pub entry_read : (w : List ℕ) (i x s t k : ℕ) (y : Sort) → x ≡ word_at w (8 * i) → s ≡ word_at w (8 * i + 2) → t ≡ word_at w (8 * i + 4) → k ≡ word_at w (8 * i + 6) → y ≡ sort_of t k → record { name = record { 0 = x }; serial = record { 0 = s }; typ = y } ≡ entry_at w i
 unfolding entry_at
 entry_read w i x s t k y qx qs qt qk qy =
     let q : y ≡ sort_of (word_at w (8 * i + 4)) (word_at w (8 * i + 6)) = qy ∙ ap₂ sort_of qt qk in
     λ j. record { name = record { 0 = qx j }; serial = record { 0 = qs j }; typ = q j }
 
-__ where the bytes below n entries are kept, so are the entries
+-- where the bytes below n entries are kept, so are the entries
 pub entries_kept : (old new : List ℕ) (n : ℕ) → ((i : ℕ) → i < 8 * n → get_or new i 0 ≡ get_or old i 0) → SameEntries n old new
 entries_kept old new n h m l = entry_kept old new m (λ i lo hi. h i (omega arith))
 
@@ -57,7 +57,7 @@ byte_far l i v j h =
     get_or-set_other (set l i (v % 256)) (i + 1) j (v / 256) 0 (λ e. h (omega arith) (omega arith))
     ∙ get_or-set_other l i j (v % 256) 0 (λ e. h (omega arith) (omega arith))
 
-__ the room after the four stores of `insert`, store by store
+-- the room after the four stores of `insert`, store by store
 abbrev stored₁ : List ℕ → ℕ → Entry → List ℕ
 stored₁ w n e = put_word w (8 * n) e.name.0
 
@@ -113,11 +113,11 @@ put_entry_lem w n e h =
       outside = put_outside w n e;
     }
 
-__ the same with a name for the room after each store, as `insert` has them
+-- the same with a name for the room after each store, as `insert` has them
 pub inserted : (w w₁ w₂ w₃ w₄ : List ℕ) (n : ℕ) (e : Entry) (t k : ℕ) → 8 * n + 8 ≤ length w → w₁ ≡ put_word w (8 * n) e.name.0 → w₂ ≡ put_word w₁ (8 * n + 2) e.serial.0 → t ≡ tag_of e.typ → w₃ ≡ put_word w₂ (8 * n + 4) t → k ≡ number_of e.typ → w₄ ≡ put_word w₃ (8 * n + 6) k → Inserted w n e w₄
 inserted w w₁ w₂ w₃ w₄ n e t k h q₁ q₂ qt q₃ qk q₄ = let q : w₄ ≡ put_entry w n e = cc in rw q (put_entry_lem w n e h)
 
-__ CONTEXTS
+-- CONTEXTS
 pub ctx_none : (f : Sort → Ty) (w : List ℕ) → ctx_at f w 0 ≡ []
 unfolding ctx_at
 ctx_none f w = refl
@@ -126,19 +126,19 @@ pub ctx_more : (f : Sort → Ty) (w : List ℕ) (n : ℕ) → ctx_at f w (n + 1)
 unfolding ctx_at
 ctx_more f w n = rw (add-one n) refl
 
-__ a goal's context length is the number of entries, shadowed ones too
+-- a goal's context length is the number of entries, shadowed ones too
 pub ctx_length : (f : Sort → Ty) (w : List ℕ) (n : ℕ) → length (ctx_at f w n) ≡ n
 unfolding ctx_at
 ctx_length f w zero = refl
 ctx_length f w (suc n) = ap suc (ctx_length f w n)
 
-__ the same entries are the same context
+-- the same entries are the same context
 pub ctx_same : (f : Sort → Ty) (old new : List ℕ) (n : ℕ) → SameEntries n old new → ctx_at f new n ≡ ctx_at f old n
 unfolding ctx_at
 ctx_same f old new zero h = refl
 ctx_same f old new (suc n) h = ap₂ {C = Ctx} ◌∷◌ (ap (stands f) (h n (omega arith))) (ctx_same f old new n (λ i l. h i (omega arith)))
 
-__ two readings of types that agree on the entries' types give the same context
+-- two readings of types that agree on the entries' types give the same context
 pub ctx_read_same : (f g : Sort → Ty) (w : List ℕ) (n : ℕ) → ((i : ℕ) → i < n → f (entry_at w i).typ ≡ g (entry_at w i).typ) → ctx_at f w n ≡ ctx_at g w n
 unfolding ctx_at
 ctx_read_same f g w zero h = refl
@@ -147,14 +147,14 @@ ctx_read_same f g w (suc n) h =
     ap₂ {C = Ctx} ◌∷◌ (λ i. record { name = (entry_at w n).name.0; serial = (entry_at w n).serial.0; ty = t i })
     (ctx_read_same f g w n (λ i l. h i (omega arith)))
 
-__ inserting leaves the contexts below as they were, and puts the entry before them
+-- inserting leaves the contexts below as they were, and puts the entry before them
 pub ctx_below : (f : Sort → Ty) {old new : List ℕ} {n : ℕ} {e : Entry} (m : ℕ) → Inserted old n e new → m ≤ n → ctx_at f new m ≡ ctx_at f old m
 ctx_below f {old} {new} m p h = ctx_same f old new m (λ i l. p.others i (omega arith))
 
 pub ctx_inserted : (f : Sort → Ty) {old new : List ℕ} {n : ℕ} {e : Entry} → Inserted old n e new → ctx_at f new (n + 1) ≡ stands f e ∷ ctx_at f old n
 ctx_inserted f {old} {new} {n} p = ctx_more f new n ∙ ap₂ {C = Ctx} ◌∷◌ (ap (stands f) p.here) (ctx_below f n p (omega arith))
 
-__ LOOKING A NAME UP among the first i entries: the latest has it, or has not, or there is none
+-- LOOKING A NAME UP among the first i entries: the latest has it, or has not, or there is none
 find_here : (f : Sort → Ty) (w : List ℕ) (i x : ℕ) (e : Entry) → 0 < i → e ≡ entry_at w (i - 1) → e.name.0 ≡ x → found f (Held e) ≡ find x (ctx_at f w i)
 unfolding ctx_at find
 find_here f w zero x e p q h = absurd (omega arith)
@@ -175,7 +175,7 @@ unfolding ctx_at find
 find_none f w zero x h = refl
 find_none f w (suc n) x h = absurd (omega arith)
 
-__ what `get_by_name` knows at each turn: the first i entries decide
+-- what `get_by_name` knows at each turn: the first i entries decide
 abbrev pub Decides : List ℕ → (n x i : ℕ) → Type 0
 Decides w n x i = (f : Sort → Ty) → find x (ctx_at f w n) ≡ find x (ctx_at f w i)
 
@@ -188,13 +188,13 @@ latest_here w n i x e p m l q h = record { finds = λ f. find_here f w i x e p q
 pub latest_none : (w : List ℕ) (n i x : ℕ) → i ≤ 0 → Decides w n x i → Latest w n x Nothing
 latest_none w n i x z l = record { finds = λ f. find_none f w i x z ∙ sym (l f); among = tt }
 
-__ for the caller, who took the answer apart: what the rules find
+-- for the caller, who took the answer apart: what the rules find
 pub held_finds : (f : Sort → Ty) {w : List ℕ} {n x : ℕ} {r : Found} {e : Entry} → Latest w n x r → r ≡ Held e → find x (ctx_at f w n) ≡ some (stands f e)
 held_finds f l q = sym (l.finds f) ∙ ap (found f) q
 
 pub nothing_finds : (f : Sort → Ty) {w : List ℕ} {n x : ℕ} {r : Found} → Latest w n x r → r ≡ Nothing → find x (ctx_at f w n) ≡ none
 nothing_finds f l q = sym (l.finds f) ∙ ap (found f) q
 
-__ what holds of each of the first n entries holds of the one that is held
+-- what holds of each of the first n entries holds of the one that is held
 pub held_has : (P : Entry → Type 0) {w : List ℕ} {n x : ℕ} {r : Found} {e : Entry} → Latest w n x r → r ≡ Held e → ((i : ℕ) → i < n → P (entry_at w i)) → P e
 held_has P {w} {n} l q h = let m = subst (Among w n) q l.among in subst⁻¹ P m.2 (h m.0 m.1)

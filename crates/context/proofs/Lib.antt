@@ -1,2 +1,2 @@
-__ What the proofs of the functions use, and what callers cite.
+-- What the proofs of the functions use, and what callers cite.
 pub mod Laws

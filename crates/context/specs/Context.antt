@@ -1,6 +1,6 @@
-__ Document 01, "The rules" (lookup begins with the entry that came last) and "The shape of each place" (an entry holds its type): the
-__ entries that bytes hold, and the context of the rules that they stand for.
-__ Assumes nothing.
+-- Document 01, "The rules" (lookup begins with the entry that came last) and "The shape of each place" (an entry holds its type): the
+-- entries that bytes hold, and the context of the rules that they stand for.
+-- Assumes nothing.
 use Rattle.std.specs.Prelude.{◌≡◌, List, [], ◌∷◌, ℕ, zero, suc, ◌+◌, ◌*◌, ◌<◌, ◌≤◌, length, get_or}
 use Rattle.std.proofs.Math.Option.{Option, none, some}
 use Rattle.numbers.specs.declared.Sort.{Sort}
@@ -13,14 +13,14 @@ use Rattle.context.specs.declared.identifier_context.Entry.{Entry}
 use Rattle.context.specs.declared.identifier_context.Found.{Found}
 use Rattle.context.specs.declared.identifier_context.Found.TheVariants.{Held, Nothing}
 
-__ the code's LIMIT and ROOM: no term enters more than two, and an entry takes eight bytes
+-- the code's LIMIT and ROOM: no term enters more than two, and an entry takes eight bytes
 abbrev pub most_entries : ℕ
 most_entries = 2 * most_terms
 
 abbrev pub context_room : ℕ
 context_room = 8 * most_entries
 
-__ TYPES are kept as two numbers: a tag, 0 for a proposition and 1 for a datatype, and the number itself
+-- TYPES are kept as two numbers: a tag, 0 for a proposition and 1 for a datatype, and the number itself
 abbrev pub tag_of : Sort → ℕ
 tag_of (Proposition p) = 0
 tag_of (Datatype d) = 1
@@ -33,7 +33,7 @@ abbrev pub sort_of : ℕ → ℕ → Sort
 sort_of zero n = Proposition (record { 0 = n })
 sort_of (suc t) n = Datatype (record { 0 = n })
 
-__ ENTRIES. Entry i of any bytes: name, serial, tag and number, 16 bits each
+-- ENTRIES. Entry i of any bytes: name, serial, tag and number, 16 bits each
 unfoldable pub entry_at : List ℕ → ℕ → Entry
 entry_at w i =
     record {
@@ -42,37 +42,37 @@ entry_at w i =
       typ = sort_of (word_at w (8 * i + 4)) (word_at w (8 * i + 6));
     }
 
-__ the first n entries are the same
+-- the first n entries are the same
 abbrev pub SameEntries : ℕ → List ℕ → List ℕ → Type 0
 SameEntries n old new = (i : ℕ) → i < n → entry_at new i ≡ entry_at old i
 
-__ `new` is `old` with the entry e at number n: no other entry changed, and no byte outside its eight
+-- `new` is `old` with the entry e at number n: no other entry changed, and no byte outside its eight
 pub record Inserted (old : List ℕ) (n : ℕ) (e : Entry) (new : List ℕ) : Type 0 where
   pub here : entry_at new n ≡ e
   pub size : length new ≡ length old
   pub others : (m : ℕ) → (m ≡ n → ⊥) → entry_at new m ≡ entry_at old m
   pub outside : (i : ℕ) → (8 * n ≤ i → i < 8 * n + 8 → ⊥) → get_or new i 0 ≡ get_or old i 0
 
-__ THE CONTEXT. What an entry is to the rules. f says what a type stands for, since a proposition's number is read in another room
+-- THE CONTEXT. What an entry is to the rules. f says what a type stands for, since a proposition's number is read in another room
 abbrev pub stands : (Sort → Ty) → Entry → Hypothesis
 stands f e = entry e.name.0 e.serial.0 (f e.typ)
 
-__ the first n entries, the latest first
+-- the first n entries, the latest first
 unfoldable pub ctx_at : (Sort → Ty) → List ℕ → ℕ → Ctx
 ctx_at f w zero = []
 ctx_at f w (suc n) = stands f (entry_at w n) ∷ ctx_at f w n
 
-__ what an answer is to the rules
+-- what an answer is to the rules
 abbrev pub found : (Sort → Ty) → Found → Option Hypothesis
 found f (Held e) = some (stands f e)
 found f Nothing = none
 
-__ what is held is one of the first n entries
+-- what is held is one of the first n entries
 abbrev pub Among : List ℕ → ℕ → Found → Type 0
 Among w n (Held e) = (i : ℕ) × (i < n) × (e ≡ entry_at w i)
 Among w n Nothing = Unit {0}
 
-__ the answer r for the name x is what the rules find, whatever types stand for
+-- the answer r for the name x is what the rules find, whatever types stand for
 pub record Latest (w : List ℕ) (n x : ℕ) (r : Found) : Type 0 where
   pub finds : (f : Sort → Ty) → found f r ≡ find x (ctx_at f w n)
   pub among : Among w n r

@@ -1,5 +1,5 @@
-__ Tables with the same records: with the same propositions they mean the same propositions, and with all of them they are the same bytes.
-__ Assumes nothing.
+-- Tables with the same records: with the same propositions they mean the same propositions, and with all of them they are the same bytes.
+-- Assumes nothing.
 use mathlib.Core.Path.{◌≡◌, refl, ap, sym, subst, ◌∙◌}
 use mathlib.Core.Bool.{Bool, true, false}
 use mathlib.Core.List.{List}
@@ -18,16 +18,16 @@ use Rattle.table.specs.Passing.{Directed}
 use Rattle.table.proofs.Counting.{nodes_root}
 use Rattle.table.proofs.Passing.{good_passed}
 use Rattle.editing.specs.Edited.{all_props, all_terms, term_bytes, Bytes, Fillable, Joined, Edited}
-use Rattle.editing.proofs.Joins.{props_joined, terms_joined, prop_cases, term-cases}
+use Rattle.editing.proofs.Joins.{props_joined, terms_joined, prop_cases, term_cases}
 use Rattle.editing.proofs.Propositions.{prop_kept}
-use Rattle.editing.proofs.Edits.{waiting_term, filling-nodes}
+use Rattle.editing.proofs.Edits.{waiting_term, filling_nodes}
 
-__ THE SAME PROPOSITIONS
+-- THE SAME PROPOSITIONS
 module _ (l l' : List ℕ) (d : Directed l) (count : props l' ≡ props l) (same : (n : ℕ) → n < props l → prop_record l' n ≡ prop_record l n) where
   pub props_alike : (n : ℕ) → n < props l → prop_at l' n ≡ prop_at l n
   props_alike = prop_kept l l' d (omega arith) same (λ n k p x y. absurd (omega arith))
 
-__ whatever stands as term q of a table joined with a filling
+-- whatever stands as term q of a table joined with a filling
 module _ {old f : List ℕ} {q : ℕ} {r r' : Record} {e j : List ℕ} (E : Joined old f q r e) (J : Joined old f q r' j) where
   pub joined_counts : (props j ≡ props e) × (terms j ≡ terms e)
   joined_counts = (props_joined J ∙ sym (props_joined E), terms_joined J ∙ sym (terms_joined E))
@@ -38,9 +38,9 @@ module _ {old f : List ℕ} {q : ℕ} {r r' : Record} {e j : List ℕ} (E : Join
   pub joined_props : Directed e → (n : ℕ) → n < props e → prop_at j n ≡ prop_at e n
   joined_props d = props_alike e j d joined_counts.0 joined_records
 
-__ THE SAME BYTES
+-- THE SAME BYTES
 module _ (l l' : List ℕ) (bytes : Bytes l) (bytes' : Bytes l') where
-  __ a record's eight words
+  -- a record's eight words
   word_alike : (n w : ℕ) → w < 8 → record_at l n ≡ record_at l' n → word_at l (16 * n + 2 * w) ≡ word_at l' (16 * n + 2 * w)
   unfolding record_at
   word_alike n zero h s =
@@ -55,7 +55,7 @@ module _ (l l' : List ℕ) (bytes : Bytes l) (bytes' : Bytes l') where
   word_alike n (suc (suc (suc (suc (suc (suc (suc zero))))))) h s = ap (λ (r : Record). get_or r.parameters 3 0) s
   word_alike n (suc (suc (suc (suc (suc (suc (suc (suc w)))))))) h s = absurd (omega arith)
 
-  __ and its sixteen bytes
+  -- and its sixteen bytes
   byte_alike : (i : ℕ) → record_at l (i / 16) ≡ record_at l' (i / 16) → get_or l i 0 ≡ get_or l' i 0
   byte_alike i s = at (eqb (i % 2) 0) refl
     where
@@ -78,10 +78,10 @@ module _ (l l' : List ℕ) (bytes : Bytes l) (bytes' : Bytes l') where
   pub table_unique : (n : ℕ) → length l ≡ 16 * n → length l' ≡ 16 * n → ((m : ℕ) → m < n → record_at l m ≡ record_at l' m) → l ≡ l'
   table_unique n a b same = ext_get_or 0 l l' (a ∙ sym b) (λ i h. byte_alike i (same (i / 16) (omega arith)))
 
-__ so a table and its filling have one edited table
+-- so a table and its filling have one edited table
 module _ {old f : List ℕ} {q : ℕ} {r : Record} {e e' : List ℕ} (k : q < terms old) (pos : 0 < terms f) (E : Joined old f q r e) (E' : Joined old f q r e') where
   terms_alike : (t : ℕ) → t < terms e → term_bytes e t ≡ term_bytes e' t
-  terms_alike = term-cases E k pos (λ t s. s ≡ term_bytes e' t) (λ t x z. sym (E'.old_term t x z)) (sym E'.here) (λ i x y. sym (E'.added_term i x y))
+  terms_alike = term_cases E k pos (λ t s. s ≡ term_bytes e' t) (λ t x z. sym (E'.old_term t x z)) (sym E'.here) (λ i x y. sym (E'.added_term i x y))
 
   records_alike : (m : ℕ) → m < 1 + (all_props old f + all_terms old f) → record_at e m ≡ record_at e' m
   records_alike zero h = E.head ∙ sym E'.head
@@ -102,10 +102,10 @@ module _ {old f : List ℕ} {q : ℕ} {r : Record} {e e' : List ℕ} (k : q < te
 pub edited_unique : {old f : List ℕ} {q : ℕ} {e e' : List ℕ} → q < terms old → 0 < terms f → Edited old f q e → Edited old f q e' → Bytes e → Bytes e' → e ≡ e'
 edited_unique k pos E E' b b' = joined_unique k pos E E' b b'
 
-__ NODES: all terms of the edited table are nodes of the script or of the filling, but for the Sorry
+-- NODES: all terms of the edited table are nodes of the script or of the filling, but for the Sorry
 pub hole_nodes : {old f : List ℕ} {q : ℕ} {e j : List ℕ} → Fillable old f q → Edited old f q e → Joined old f q (term_bytes old q) j
     → nodes (term_at e q) + nodes (term_at j 0) ≡ terms e + 1
 hole_nodes h E J =
     let o = good_passed h.old_good in
     let script = ap nodes (waiting_term h J 0 o.counted.some) ∙ nodes_root o.formed o.linked o.counted.some in
-    omega (arith, script, filling-nodes h E, terms_joined E, h.inside, (good_passed h.good).counted.some)
+    omega (arith, script, filling_nodes h E, terms_joined E, h.inside, (good_passed h.good).counted.some)

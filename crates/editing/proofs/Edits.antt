@@ -1,6 +1,6 @@
-__ The edited table of a table and a filling that pass their tests: it passes 2, 4, 5 and 7 by itself, so 3 and 6 settle that it passes. Its root stands for the old
-__ root with the filling, of as many nodes as that has terms, in place of one gap.
-__ Assumes nothing.
+-- The edited table of a table and a filling that pass their tests: it passes 2, 4, 5 and 7 by itself, so 3 and 6 settle that it passes. Its root stands for the old
+-- root with the filling, of as many nodes as that has terms, in place of one gap.
+-- Assumes nothing.
 use mathlib.Core.Path.{◌≡◌, refl, ap, sym, ◌∙◌}
 use mathlib.Core.Bool.{Bool, true, false, not, cond}
 use mathlib.Core.List.{List, []}
@@ -38,13 +38,13 @@ use Rattle.table.proofs.Counting.{nodes_root, gaps_one}
 use Rattle.table.proofs.Passing.{Passed, good_passed, good_closed}
 use Rattle.table.proofs.Fills.{goal_sorry}
 use Rattle.editing.specs.Edited.{all_props, all_terms, moved_term, term_bytes, Fillable, Joined, Edited, edited_from_sizes, edited_tests}
-use Rattle.editing.proofs.Joins.{Sits, old_sits, added_sits, terms_joined, expected_joined, joined-counted, joined-formed, joined-directed}
+use Rattle.editing.proofs.Joins.{Sits, old_sits, added_sits, terms_joined, expected_joined, joined_counted, joined_formed, joined_directed}
 use Rattle.editing.proofs.Heads.{header_joined}
 use Rattle.editing.proofs.Propositions.{prop_same}
 use Rattle.editing.proofs.Terms.{term_plugged, term_same}
-use Rattle.editing.proofs.Names.{edited-linked}
+use Rattle.editing.proofs.Names.{edited_linked}
 
-__ TESTS 4 AND 5 find nobody
+-- TESTS 4 AND 5 find nobody
 nobody : (g h : Guilty) (p : ℕ) → g ≡ Nobody → h ≡ Nobody → or_term g p h ≡ Nobody
 unfolding or_term
 nobody g h p x y = rw (x, y)
@@ -59,7 +59,7 @@ none_badly_linked : (l : List ℕ) → Linked Check l → badly_linked Check l �
 unfolding badly_linked
 none_badly_linked l h = nobody _ _ (props l) (first_nobody (badly_linked_prop Check l) (props l) h.prop) (first_nobody (badly_linked_term l) (terms l) h.term)
 
-__ NODES of a term with its gaps q plugged
+-- NODES of a term with its gaps q plugged
 nodes_plug : (q : ℕ) (u t : Term) → nodes (plug q u t) + gaps q t ≡ nodes t + gaps q t * nodes u
 unfolding nodes gaps plug
 nodes_plug q u (leaf p k) = omega arith
@@ -73,14 +73,14 @@ nodes_plug q u (sorry p) = at (eqb p q)
     at true = omega arith
     at false = omega arith
 
-__ A GOAL of the old table's run can be filled
+-- A GOAL of the old table's run can be filled
 pub goal_fillable : (old f : List ℕ) → Good Check old → Good Filling f → (a : Answer) (st : St)
     → run (term_at old 0) (check (prop (prop_at old (expected old)))) [] start ≡ ok a st → (g : Gap) → Stands g a.tree → Fillable old f g.term
 goal_fillable old f good fills a st accepted g p =
     let s = goal_sorry old good a st accepted g p in
     record { old_good = good; good = fills; inside = s.0; gap = s.1 }
 
-__ BOTH TABLES pass. Then the Sorry record, and the filling's root moved, may each stand at q
+-- BOTH TABLES pass. Then the Sorry record, and the filling's root moved, may each stand at q
 module _ {old f : List ℕ} {q : ℕ} (h : Fillable old f q) where
   o : Passed Check old
   o = good_passed h.old_good
@@ -97,44 +97,44 @@ module _ {old f : List ℕ} {q : ℕ} (h : Fillable old f q) where
   pub replaces : Sits (all_props old f) (all_terms old f) q (moved_term (props old) (terms old) (term_bytes f 0))
   replaces = added_sits old f g.formed (directed g.linked) (omega (arith, h.inside)) 0 q g.counted.some (omega (arith, h.inside))
 
-  __ WHATEVER STANDS THERE
+  -- WHATEVER STANDS THERE
   module _ {r : Record} {e : List ℕ} (J : Joined old f q r e) where
     pub whole_prop : (n : ℕ) → n < props old → prop_at e n ≡ prop_at old n
     whole_prop = prop_same J (directed o.linked)
 
-    pub whole-counted : all_props old f ≤ most_propositions → all_terms old f ≤ most_terms → Counted e
-    whole-counted = joined-counted J h.inside g.counted.some
+    pub whole_counted : all_props old f ≤ most_propositions → all_terms old f ≤ most_terms → Counted e
+    whole_counted = joined_counted J h.inside g.counted.some
 
     module _ (root : Sits (all_props old f) (all_terms old f) q r) where
-      pub whole-formed : Formed e
-      whole-formed = joined-formed J h.inside g.counted.some o.formed g.formed (directed o.linked) (directed g.linked) root
+      pub whole_formed : Formed e
+      whole_formed = joined_formed J h.inside g.counted.some o.formed g.formed (directed o.linked) (directed g.linked) root
 
-      pub whole-directed : Directed e
-      whole-directed = joined-directed J h.inside g.counted.some o.formed g.formed (directed o.linked) (directed g.linked) root
+      pub whole_directed : Directed e
+      whole_directed = joined_directed J h.inside g.counted.some o.formed g.formed (directed o.linked) (directed g.linked) root
 
-  __ WITH THE SORRY STILL THERE the old terms are as they were
+  -- WITH THE SORRY STILL THERE the old terms are as they were
   pub waiting_term : {e : List ℕ} → Joined old f q (term_bytes old q) e → (t : ℕ) → t < terms old → term_at e t ≡ term_at old t
-  waiting_term J = term_same J (directed o.linked) (whole-directed J stays) h.inside g.counted.some h.gap h.gap
+  waiting_term J = term_same J (directed o.linked) (whole_directed J stays) h.inside g.counted.some h.gap h.gap
 
   pub one_gap : gaps q (term_at old 0) ≡ 1
   one_gap = gaps_one o.formed o.linked o.counted.some q h.inside h.gap
 
-  __ WITH THE FILLING'S ROOT
+  -- WITH THE FILLING'S ROOT
   module _ {e : List ℕ} (E : Edited old f q e) where
-    pub filled-term : (t : ℕ) → t < terms old → term_at e t ≡ plug q (term_at e q) (term_at old t)
-    filled-term = term_plugged E (directed o.linked) (whole-directed E replaces) h.inside g.counted.some h.gap
+    pub filled_term : (t : ℕ) → t < terms old → term_at e t ≡ plug q (term_at e q) (term_at old t)
+    filled_term = term_plugged E (directed o.linked) (whole_directed E replaces) h.inside g.counted.some h.gap
 
-    pub filling-place : place (term_at e q) ≡ q
-    filling-place = place_at e q
+    pub filling_place : place (term_at e q) ≡ q
+    filling_place = place_at e q
 
-    __ test 5
-    pub edited-in-order : Linked Check e
-    edited-in-order = edited-linked E h.inside g.counted.some o.formed h.gap o.linked g.linked (whole-directed E replaces)
+    -- test 5
+    pub edited_in_order : Linked Check e
+    edited_in_order = edited_linked E h.inside g.counted.some o.formed h.gap o.linked g.linked (whole_directed E replaces)
 
-    __ the filling has as many nodes as terms
-    pub filling-nodes : nodes (term_at e q) ≡ terms f
-    filling-nodes =
-        let a : nodes (term_at e 0) ≡ nodes (plug q (term_at e q) (term_at old 0)) = ap nodes (filled-term 0 o.counted.some) in
+    -- the filling has as many nodes as terms
+    pub filling_nodes : nodes (term_at e q) ≡ terms f
+    filling_nodes =
+        let a : nodes (term_at e 0) ≡ nodes (plug q (term_at e q) (term_at old 0)) = ap nodes (filled_term 0 o.counted.some) in
         let b : gaps q (term_at old 0) * nodes (term_at e q) ≡ 1 * nodes (term_at e q) = ap (λ (n : ℕ). n * nodes (term_at e q)) one_gap in
         omega (
           arith,
@@ -142,51 +142,51 @@ module _ {old f : List ℕ} {q : ℕ} (h : Fillable old f q) where
           one_gap,
           nodes_root o.formed o.linked o.counted.some,
           terms_joined E,
-          nodes_root (whole-formed E replaces) edited-in-order (omega (arith, terms_joined E, h.inside, g.counted.some)),
+          nodes_root (whole_formed E replaces) edited_in_order (omega (arith, terms_joined E, h.inside, g.counted.some)),
           g.counted.some,
         )
 
-    __ test 7
-    pub edited-closed : closed (prop_at e (expected e)) ≡ true
-    edited-closed =
+    -- test 7
+    pub edited_closed : closed (prop_at e (expected e)) ≡ true
+    edited_closed =
         ap (λ (n : ℕ). closed (prop_at e n)) (expected_joined E) ∙ ap closed (whole_prop E (expected old) (expected_in o.linked)) ∙ good_closed old h.old_good
 
-    __ so tests 3 and 6 settle the rest
-    edited-uncounted : counts e ≡ false → Refused (refusal_at 3 0) ≡ tests Check e
+    -- so tests 3 and 6 settle the rest
+    edited_uncounted : counts e ≡ false → Refused (refusal_at 3 0) ≡ tests Check e
     unfolding tests from_counts unless
-    edited-uncounted c = rw (header_joined E o.marked, c)
+    edited_uncounted c = rw (header_joined E o.marked, c)
 
-    edited-counted : counts e ≡ true → tests Check e ≡ from_sizes Check e
+    edited_counted : counts e ≡ true → tests Check e ≡ from_sizes Check e
     unfolding tests from_counts from_forms from_expected from_links unless accused
-    edited-counted c =
+    edited_counted c =
         rw (
           header_joined E o.marked,
           c,
-          none_formless e (whole-formed E replaces),
-          edited-in-order.goal,
-          none_badly_linked e edited-in-order,
+          none_formless e (whole_formed E replaces),
+          edited_in_order.goal,
+          none_badly_linked e edited_in_order,
         )
 
-    edited-large : (i : ℕ) → oversized e ≡ At i → Refused (refusal_at 6 i) ≡ from_sizes Check e
+    edited_large : (i : ℕ) → oversized e ≡ At i → Refused (refusal_at 6 i) ≡ from_sizes Check e
     unfolding from_sizes accused
-    edited-large i big = rw big
+    edited_large i big = rw big
 
-    edited-small : oversized e ≡ Nobody → from_sizes Check e ≡ Passes
+    edited_small : oversized e ≡ Nobody → from_sizes Check e ≡ Passes
     unfolding from_sizes from_goal open_goal accused
-    edited-small small = rw (small, edited-closed)
+    edited_small small = rw (small, edited_closed)
 
-    pub edited-passes : counts e ≡ true → oversized e ≡ Nobody → Good Check e
-    edited-passes c small = edited-counted c ∙ edited-small small
+    pub edited_passes : counts e ≡ true → oversized e ≡ Nobody → Good Check e
+    edited_passes c small = edited_counted c ∙ edited_small small
 
-    __ and its tests are those of a check
-    pub edited-verdict : edited_tests e ≡ tests Check e
+    -- and its tests are those of a check
+    pub edited_verdict : edited_tests e ≡ tests Check e
     unfolding edited_tests edited_from_sizes unless accused
-    edited-verdict = at (counts e) refl (oversized e) refl
+    edited_verdict = at (counts e) refl (oversized e) refl
       where
         at : (b : Bool) → counts e ≡ b → (g : Guilty) → oversized e ≡ g → unless b 3 (accused 6 g Passes) ≡ tests Check e
-        at true c Nobody small = sym (edited-passes c small)
-        at true c (At i) big = edited-large i big ∙ sym (edited-counted c)
-        at false c g small = edited-uncounted c
+        at true c Nobody small = sym (edited_passes c small)
+        at true c (At i) big = edited_large i big ∙ sym (edited_counted c)
+        at false c g small = edited_uncounted c
 
-    pub edited-good : edited_tests e ≡ Passes → Good Check e
-    edited-good z = sym edited-verdict ∙ z
+    pub edited_good : edited_tests e ≡ Passes → Good Check e
+    edited_good z = sym edited_verdict ∙ z

@@ -1,5 +1,5 @@
-__ The code that moves a record's links: no number overflows, and the record is the moved one.
-__ Assumes nothing.
+-- The code that moves a record's links: no number overflows, and the record is the moved one.
+-- Assumes nothing.
 use mathlib.Core.Path.{◌≡◌, refl, ap, sym, subst, subst⁻¹, ◌∙◌}
 use mathlib.Core.Bool.{Bool, true, cond}
 use mathlib.Core.List.{[], ◌∷◌}
@@ -21,7 +21,7 @@ use Rattle.editing.specs.declared.moving.Change.TheVariants as to
 use Rattle.editing.specs.Edited.{moved_children, moved_prop, moved_subterms, moved_term}
 use Rattle.editing.specs.Copied.{changed, Within, PropMoves, TermMoves, Moves}
 
-__ A FIELD THAT IS A LINK is one of the links
+-- A FIELD THAT IS A LINK is one of the links
 module _ (most : ℕ) (r : Record) where
   left_link : (k : ℕ) → Within most (prop_children k r) → ltb 1 k ≡ true → r.a ≤ most
   unfolding prop_children
@@ -66,7 +66,7 @@ module _ (most : ℕ) (r : Record) where
   unfolding annotation_links
   type_link w x = subst (λ b. Within most (cond b (r.a ∷ []) [])) x w r.a (hit_here r.a [])
 
-__ PROPOSITIONS, with what the code knows of the kind
+-- PROPOSITIONS, with what the code knows of the kind
 module _ {p : ℕ} {r : Record} (h : PropMoves p r) (s : PropShape) (e : s ≡ prop_shape (prop_kind r.kind)) where
   links : Within most_propositions (prop_children s.children r)
   links = subst (λ (s : PropShape). Within most_propositions (prop_children s.children r)) (sym e) h.links
@@ -86,7 +86,7 @@ pub prop_moved : (p : ℕ) (r : Record) (s : PropShape) → s ≡ prop_shape (pr
 prop_moved p r s e x y z a b c =
     (λ i. record { kind = r.kind; count = r.count; a = a i; b = b i; c = c i; parameters = r.parameters }) ∙ ap (λ (s : PropShape). moved_children s.children p r) e
 
-__ TERMS
+-- TERMS
 module _ {p t : ℕ} {r : Record} (h : TermMoves p t r) where
   pub type_moves : (p ≤ most_propositions) × (eqb r.count 1 ≡ true → r.a ≤ most_propositions)
   type_moves = (h.room, type_link most_propositions r h.typ)
@@ -95,16 +95,16 @@ module _ {p t : ℕ} {r : Record} (h : TermMoves p t r) where
     subterms : Within most_terms (term_children s.children (as_term r))
     subterms = subst (λ (s : TermShape). Within most_terms (term_children s.children (as_term r))) (sym e) h.links
 
-    pub first-moves : (t - 1 ≤ most_propositions) × (ltb 0 s.children ≡ true → get_or r.parameters 0 0 ≤ most_propositions)
-    first-moves = (omega (arith, h.few), λ x. omega (arith, first_link most_terms r s.children subterms x))
+    pub first_moves : (t - 1 ≤ most_propositions) × (ltb 0 s.children ≡ true → get_or r.parameters 0 0 ≤ most_propositions)
+    first_moves = (omega (arith, h.few), λ x. omega (arith, first_link most_terms r s.children subterms x))
 
-    pub second-moves : (t - 1 ≤ most_propositions) × (ltb 1 s.children ≡ true → get_or r.parameters 1 0 ≤ most_propositions)
-    second-moves = (omega (arith, h.few), λ x. omega (arith, second_link most_terms r s.children subterms x))
+    pub second_moves : (t - 1 ≤ most_propositions) × (ltb 1 s.children ≡ true → get_or r.parameters 1 0 ≤ most_propositions)
+    second_moves = (omega (arith, h.few), λ x. omega (arith, second_link most_terms r s.children subterms x))
 
-    pub third-moves : (t - 1 ≤ most_propositions) × (ltb 2 s.children ≡ true → get_or r.parameters 2 0 ≤ most_propositions)
-    third-moves = (omega (arith, h.few), λ x. omega (arith, third_link most_terms r s.children subterms x))
+    pub third_moves : (t - 1 ≤ most_propositions) × (ltb 2 s.children ≡ true → get_or r.parameters 2 0 ≤ most_propositions)
+    third_moves = (omega (arith, h.few), λ x. omega (arith, third_link most_terms r s.children subterms x))
 
-    __ the code moves by t - 1
+    -- the code moves by t - 1
     subterm : (b : Bool) (m x : ℕ) → x ≡ cond b (t - 1 + m) m → x ≡ cond b (t + m - 1) m
     subterm b m x z = z ∙ ap (λ (n : ℕ). cond b n m) (omega (arith, h.some))
 
@@ -117,7 +117,7 @@ module _ {p t : ℕ} {r : Record} (h : TermMoves p t r) where
         (λ i. record { kind = r.kind; count = r.count; a = d i; b = r.b; c = r.c; parameters = subterm (ltb 0 s.children) (get_or r.parameters 0 0) x a i ∷ subterm (ltb 1 s.children) (get_or r.parameters 1 0) y b i ∷ subterm (ltb 2 s.children) (get_or r.parameters 2 0) z c i ∷ get_or r.parameters 3 0 ∷ [] })
         ∙ ap (λ (s : TermShape). moved_subterms s.children p t r) e
 
-__ WHAT BECOMES OF A RECORD, by the change that is asked for
+-- WHAT BECOMES OF A RECORD, by the change that is asked for
 module _ (change : Change) (r : Record) where
   pub prop_told : (p : ℕ) → change ≡ to.Proposition p → Moves change r → PropMoves p r
   prop_told p e h = subst (λ k. Moves k r) e h
@@ -130,10 +130,10 @@ module _ (change : Change) (r : Record) where
   stays e = subst⁻¹ (λ k. r ≡ changed k r) e refl
 
   module _ (m : Record) where
-    pub prop-changed : (p : ℕ) → change ≡ to.Proposition p → m ≡ moved_prop p r → m ≡ changed change r
+    pub prop_changed : (p : ℕ) → change ≡ to.Proposition p → m ≡ moved_prop p r → m ≡ changed change r
     unfolding changed
-    prop-changed p e x = subst⁻¹ (λ k. m ≡ changed k r) e x
+    prop_changed p e x = subst⁻¹ (λ k. m ≡ changed k r) e x
 
-    pub term-changed : (p t : ℕ) → change ≡ to.Term p t → m ≡ moved_term p t r → m ≡ changed change r
+    pub term_changed : (p t : ℕ) → change ≡ to.Term p t → m ≡ moved_term p t r → m ≡ changed change r
     unfolding changed
-    term-changed p t e x = subst⁻¹ (λ k. m ≡ changed k r) e x
+    term_changed p t e x = subst⁻¹ (λ k. m ≡ changed k r) e x

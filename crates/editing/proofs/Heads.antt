@@ -1,5 +1,5 @@
-__ The header of a table joined with a filling is the old one with other counts, so it passes test 2.
-__ Assumes nothing.
+-- The header of a table joined with a filling is the old one with other counts, so it passes test 2.
+-- Assumes nothing.
 use mathlib.Core.Path.{◌≡◌, ap, ◌∙◌}
 use mathlib.Core.Bool.{Bool, true, ◌&&◌}
 use mathlib.Core.List.{List}
@@ -20,7 +20,7 @@ four_true a b c d h =
     let y = and_right b (c && d) x in
     (and_left a (b && (c && d)) h, and_left b (c && d) x, and_left c d y, and_right c d y)
 
-__ TEST 2 asks of the header as a record
+-- TEST 2 asks of the header as a record
 record Heads (l : List ℕ) : Type 0 where
   long : 16 ≤ length l
   kind : (record_at l 0).kind ≡ 78
@@ -57,7 +57,7 @@ of_heads l h =
     let b₁₅ : get_or l 15 0 ≡ 0 = omega (arith, h.fourth) in
     rw (le-leb 16 (length l) h.long, eq-eqb _ 78 h.kind, eq-eqb _ 68 h.count, eq-eqb _ 84 b₂, eq-eqb _ 0 b₃, eq-eqb (word_at l 4) 1 h.b, eq-eqb _ 0 b₁₂, eq-eqb _ 0 b₁₃, eq-eqb _ 0 b₁₄, eq-eqb _ 0 b₁₅)
 
-__ the old header with other counts
+-- the old header with other counts
 pub header_joined : {old f : List ℕ} {q : ℕ} {r : Record} {e : List ℕ} → Joined old f q r e → header old ≡ true → header e ≡ true
 header_joined {old = old} {e = e} J h =
     let o = heads_of old h in

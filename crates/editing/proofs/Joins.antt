@@ -1,5 +1,5 @@
-__ A table joined with a filling, record by record: where each stands, and that tests 3, 4 and the links of 5 hold of the whole as they do of both parts.
-__ Assumes nothing.
+-- A table joined with a filling, record by record: where each stands, and that tests 3, 4 and the links of 5 hold of the whole as they do of both parts.
+-- Assumes nothing.
 use mathlib.Core.Path.{◌≡◌, refl, ap, subst, subst⁻¹, ◌∙◌}
 use mathlib.Core.Bool.{Bool, true, false, ◌&&◌, and-eq-true_iff}
 use mathlib.Core.List.{List}
@@ -20,7 +20,7 @@ use Rattle.table.proofs.Links.{child_below, term_child, annotation_in}
 use Rattle.editing.specs.Edited.{new_prop, new_term, moved_prop, moved_term, all_props, all_terms, term_bytes, Joined}
 use Rattle.editing.proofs.Moves.{all_so, hit_moved, prop_links_moved, term_links_moved, annotation_moved, prop_form_moved, term_form_moved}
 
-__ below a bound, or so much above it
+-- below a bound, or so much above it
 pub below_or : (n b c : ℕ) → n < b + c → (n < b) ⊎ ((j : ℕ) × (j < c) × (n ≡ b + j))
 below_or n b c h = at (ltb n b) refl
   where
@@ -35,7 +35,7 @@ same_or t q = at (eqb t q) refl
     at true e = inl (eqb-true t q e)
     at false e = inr (eqb-false t q e)
 
-__ THE RECORD r MAY STAND AS TERM t in a table of p propositions and k terms
+-- THE RECORD r MAY STAND AS TERM t in a table of p propositions and k terms
 pub record Sits (p k t : ℕ) (r : Record) : Type 0 where
   pub form : term_form (as_term r) ≡ true
   pub links : (m : ℕ) → 0 < hits m (term_links (as_term r)) → (t < m) × (m < k)
@@ -48,7 +48,7 @@ sits_linked p k t r s =
       all_so (λ m. ltb m p) (annotation (as_term r)) (λ m x. lt-ltb m p (s.typ m x)),
     )
 
-__ so may the records of the old table, and the filling's, moved
+-- so may the records of the old table, and the filling's, moved
 pub old_sits : (old f : List ℕ) → Formed old → Directed old → 0 < terms f → (t : ℕ) → t < terms old → Sits (all_props old f) (all_terms old f) t (term_bytes old t)
 old_sits old f formed d pos t k =
     record {
@@ -73,7 +73,7 @@ added_sits old f formed d pos i t k h =
     typ m z = omega (arith, z.1, annotation_in d i z.0 k z.2)
 
 module _ {old f : List ℕ} {q : ℕ} {r : Record} {e : List ℕ} (J : Joined old f q r e) where
-  __ THE HEADER'S NUMBERS
+  -- THE HEADER'S NUMBERS
   pub props_joined : props e ≡ all_props old f
   unfolding record_at
   props_joined = ap (λ (h : Record). h.c) J.head
@@ -86,7 +86,7 @@ module _ {old f : List ℕ} {q : ℕ} {r : Record} {e : List ℕ} (J : Joined ol
   unfolding record_at
   expected_joined = ap (λ (h : Record). get_or h.parameters 1 0) J.head
 
-  __ WHAT HOLDS OF EACH RECORD, from its part of the table
+  -- WHAT HOLDS OF EACH RECORD, from its part of the table
   pub prop_cases : (F : ℕ → Record → Type 0) → ((n : ℕ) → n < props old → F n (prop_record old n)) → ((j : ℕ) → j < props f → F (new_prop (props old) j) (moved_prop (props old) (prop_record f j)))
       → (n : ℕ) → n < props e → F n (prop_record e n)
   prop_cases F a b n k = at (below_or n (props old) (props f) (omega (arith, props_joined)))
@@ -96,9 +96,9 @@ module _ {old f : List ℕ} {q : ℕ} {r : Record} {e : List ℕ} (J : Joined ol
       at (inr z) = subst⁻¹ (λ n. F n (prop_record e n)) z.2 (subst⁻¹ (F (props old + z.0)) (J.added_prop z.0 z.1) (b z.0 z.1))
 
   module _ (k : q < terms old) (pos : 0 < terms f) where
-    pub term-cases : (F : ℕ → Record → Type 0) → ((t : ℕ) → t < terms old → (t ≡ q → ⊥) → F t (term_bytes old t)) → F q r
+    pub term_cases : (F : ℕ → Record → Type 0) → ((t : ℕ) → t < terms old → (t ≡ q → ⊥) → F t (term_bytes old t)) → F q r
         → ((i : ℕ) → 0 < i → i < terms f → F (new_term (terms old) i) (moved_term (props old) (terms old) (term_bytes f i))) → (t : ℕ) → t < terms e → F t (term_bytes e t)
-    term-cases F a h b t x = at (below_or t (terms old) (terms f - 1) (omega (arith, terms_joined))) (same_or t q)
+    term_cases F a h b t x = at (below_or t (terms old) (terms f - 1) (omega (arith, terms_joined))) (same_or t q)
       where
         at : (t < terms old) ⊎ ((j : ℕ) × (j < terms f - 1) × (t ≡ terms old + j)) → (t ≡ q) ⊎ (t ≡ q → ⊥) → F t (term_bytes e t)
         at s (inl z) = subst⁻¹ (λ t. F t (term_bytes e t)) z (subst⁻¹ (F q) J.here h)
@@ -109,29 +109,29 @@ module _ {old f : List ℕ} {q : ℕ} {r : Record} {e : List ℕ} (J : Joined ol
             subst⁻¹ (λ t. F t (term_bytes e t)) so (subst⁻¹ (F (new_term (terms old) i)) (J.added_term i (omega arith) (omega (arith, y.1))) (b i (omega arith) (omega (arith, y.1))))
 
     module _ (old-formed : Formed old) (formed : Formed f) (old-directed : Directed old) (directed : Directed f) (root : Sits (all_props old f) (all_terms old f) q r) where
-      pub joined-sits : (t : ℕ) → t < terms e → Sits (all_props old f) (all_terms old f) t (term_bytes e t)
-      joined-sits =
-          term-cases (Sits (all_props old f) (all_terms old f)) (λ t y _. old_sits old f old-formed old-directed pos t y) root
+      pub joined_sits : (t : ℕ) → t < terms e → Sits (all_props old f) (all_terms old f) t (term_bytes e t)
+      joined_sits =
+          term_cases (Sits (all_props old f) (all_terms old f)) (λ t y _. old_sits old f old-formed old-directed pos t y) root
           (λ i x y. added_sits old f formed directed (omega arith) i (new_term (terms old) i) y (omega arith))
 
-      __ TEST 4
-      pub joined-formed : Formed e
-      joined-formed =
+      -- TEST 4
+      pub joined_formed : Formed e
+      joined_formed =
           record {
             prop =
                 prop_cases (λ n r. prop_form r ≡ true) (λ n x. old-formed.prop n x)
                 (λ j x. prop_form_moved (props old) (prop_record f j) ∙ formed.prop j x);
-            term = λ t x. (joined-sits t x).form;
+            term = λ t x. (joined_sits t x).form;
           }
 
-      __ OF TEST 5 the links
-      pub joined-directed : Directed e
-      joined-directed =
+      -- OF TEST 5 the links
+      pub joined_directed : Directed e
+      joined_directed =
           record {
             prop = prop_cases (λ n r. all_links (λ m. ltb m n) (prop_links r) ≡ true) (λ n x. old-directed.prop n x) (λ j x. all_so _ _ (λ m y. lt-ltb m _ (child j x m y)));
             term = λ t x.
                 sits_linked (props e) (terms e) t (term_bytes e t)
-                (subst⁻¹ (λ p. Sits p (terms e) t (term_bytes e t)) props_joined (subst⁻¹ (λ k. Sits (all_props old f) k t (term_bytes e t)) terms_joined (joined-sits t x)));
+                (subst⁻¹ (λ p. Sits p (terms e) t (term_bytes e t)) props_joined (subst⁻¹ (λ k. Sits (all_props old f) k t (term_bytes e t)) terms_joined (joined_sits t x)));
           }
         where
           child : (j : ℕ) → j < props f → (m : ℕ) → 0 < hits m (prop_links (moved_prop (props old) (prop_record f j))) → m < new_prop (props old) j
@@ -139,9 +139,9 @@ module _ {old f : List ℕ} {q : ℕ} {r : Record} {e : List ℕ} (J : Joined ol
               let z = hit_moved (new_prop (props old)) m (prop_links (prop_record f j)) (subst (λ ms. 0 < hits m ms) (prop_links_moved (props old) (prop_record f j)) y) in
               omega (arith, z.1, child_below directed j z.0 x z.2)
 
-    __ TEST 3
-    pub joined-counted : all_props old f ≤ most_propositions → all_terms old f ≤ most_terms → Counted e
-    joined-counted a b =
+    -- TEST 3
+    pub joined_counted : all_props old f ≤ most_propositions → all_terms old f ≤ most_terms → Counted e
+    joined_counted a b =
         record {
           propositions = omega (arith, props_joined);
           some = omega (arith, terms_joined);

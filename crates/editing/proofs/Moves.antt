@@ -1,5 +1,5 @@
-__ A filling's records with their links moved: the links are the old ones moved, and the form is as it was.
-__ Assumes nothing.
+-- A filling's records with their links moved: the links are the old ones moved, and the form is as it was.
+-- Assumes nothing.
 use mathlib.Core.Path.{◌≡◌, refl, ap, ap₂, sym, ◌∙◌}
 use mathlib.Core.Bool.{Bool, true, false, ◌&&◌, cond, and-eq-true_iff}
 use mathlib.Core.List.{List, [], ◌∷◌, map}
@@ -18,7 +18,7 @@ use Rattle.table.specs.Links.{prop_children, prop_links, term_children, term_lin
 use Rattle.table.proofs.Sums.{hit_here, hit_later, hit_either, hit_not}
 use Rattle.editing.specs.Edited.{new_prop, new_term, moved_children, moved_prop, moved_subterms, moved_term}
 
-__ LISTS OF LINKS. All are so if each is
+-- LISTS OF LINKS. All are so if each is
 pub all_so : (ok : ℕ → Bool) (ms : List ℕ) → ((m : ℕ) → 0 < hits m ms → ok m ≡ true) → all_links ok ms ≡ true
 unfolding all_links
 all_so ok [] h = refl
@@ -31,7 +31,7 @@ hits_none n ms h = at (eq-or-lt_of_le {n = 0} {m = hits n ms} (omega arith))
     at (inl e) = sym e
     at (inr x) = absurd (h x)
 
-__ who stands in a moved list was moved there
+-- who stands in a moved list was moved there
 pub hit_moved : (g : ℕ → ℕ) (m : ℕ) (ms : List ℕ) → 0 < hits m (map g ms) → (i : ℕ) × (m ≡ g i) × (0 < hits i ms)
 hit_moved g m [] x = absurd (hit_not m x)
 hit_moved g m (k ∷ ms) x = at (hit_either m (g k) (map g ms) x) (hit_moved g m ms)
@@ -40,7 +40,7 @@ hit_moved g m (k ∷ ms) x = at (hit_either m (g k) (map g ms) x) (hit_moved g m
     at (inl e) rest = (k, sym e, hit_here k ms)
     at (inr y) rest = let r = rest y in (r.0, r.1, hit_later r.0 k ms r.2)
 
-__ and stands there as often as before, if nobody else was moved to his place
+-- and stands there as often as before, if nobody else was moved to his place
 pub hits_moved : (g : ℕ → ℕ) (i : ℕ) (ms : List ℕ) → ((m : ℕ) → 0 < hits m ms → g m ≡ g i → m ≡ i) → hits (g i) (map g ms) ≡ hits i ms
 unfolding hits
 hits_moved g i [] h = refl
@@ -51,7 +51,7 @@ hits_moved g i (k ∷ ms) h =
     at true e = eq-eqb (g k) (g i) (ap g (eqb-true k i e)) ∙ sym e
     at false e = ne_eqb (g k) (g i) (λ q. eqb-false k i e (h k (hit_here k ms) q)) ∙ sym e
 
-__ LINKS of a moved record
+-- LINKS of a moved record
 children_moved : (k p : ℕ) (r : Record) → prop_children k (moved_children k p r) ≡ map (new_prop p) (prop_children k r)
 unfolding prop_children
 children_moved zero p r = refl
@@ -83,7 +83,7 @@ type_moved p tag m = at (eqb tag 1)
 pub annotation_moved : (p t : ℕ) (r : Record) → annotation (as_term (moved_term p t r)) ≡ map (new_prop p) (annotation (as_term r))
 annotation_moved p t r = type_moved p r.count r.a
 
-__ FORM of a moved record: only fields move that the kind uses
+-- FORM of a moved record: only fields move that the kind uses
 pub prop_form_moved : (p : ℕ) (r : Record) → prop_form (moved_prop p r) ≡ prop_form r
 unfolding prop_form prop_shape
 prop_form_moved p r = at (prop_kind r.kind)

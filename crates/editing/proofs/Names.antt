@@ -1,5 +1,5 @@
-__ In the edited table each record is named once: an old one by old records alone, a moved one by moved ones; the Sorry record, which goes, named nobody.
-__ Assumes nothing.
+-- In the edited table each record is named once: an old one by old records alone, a moved one by moved ones; the Sorry record, which goes, named nobody.
+-- Assumes nothing.
 use mathlib.Core.Path.{◌≡◌, refl, ap, ap₂, subst, ◌∙◌}
 use mathlib.Core.Bool.{false, ◌||◌, not}
 use mathlib.Core.List.{List, [], ◌∷◌, map}
@@ -19,15 +19,15 @@ use Rattle.table.proofs.Links.{directed, child_below, term_child, annotation_in,
 use Rattle.table.proofs.Reading.{tag_range}
 use Rattle.editing.specs.Edited.{new_prop, new_term, moved_term, term_bytes, Edited}
 use Rattle.editing.proofs.Moves.{hits_none, hit_moved, hits_moved, prop_links_moved, term_links_moved, annotation_moved}
-use Rattle.editing.proofs.Joins.{same_or, props_joined, terms_joined, expected_joined, prop_cases, term-cases}
+use Rattle.editing.proofs.Joins.{same_or, props_joined, terms_joined, expected_joined, prop_cases, term_cases}
 
-__ SUMS over two parts
+-- SUMS over two parts
 sum_split : (f : ℕ → ℕ) (a b : ℕ) → sum f (a + b) ≡ sum f a + sum (λ i. f (a + i)) b
 unfolding sum
 sum_split f a zero = let q : a + 0 ≡ a = omega arith in ap (sum f) q ∙ omega arith
 sum_split f a (suc b) = let q : a + suc b ≡ suc (a + b) = omega arith in ap (sum f) q ∙ omega (arith, sum_split f a b)
 
-__ over numbers of which q alone has a new part, where it had none
+-- over numbers of which q alone has a new part, where it had none
 sum_but : (w u : ℕ → ℕ) (q n : ℕ) → q < n → ((t : ℕ) → t < n → (t ≡ q → ⊥) → w t ≡ u t) → u q ≡ 0 → sum w n ≡ sum u n + w q
 unfolding sum
 sum_but w u q zero k same z = absurd (omega arith)
@@ -42,7 +42,7 @@ sum_but w u q (suc n) k same z = at (same_or n q) (λ l. sum_but w u q n l (λ t
         let l : q < n = omega arith in
         omega (arith, rest l, same n (omega arith) d)
 
-__ over the terms of the edited table, t old ones and those of a filling of s terms, whose root takes the place of q
+-- over the terms of the edited table, t old ones and those of a filling of s terms, whose root takes the place of q
 sum_edited : (w u v : ℕ → ℕ) (q t s : ℕ) → q < t → 0 < s → ((i : ℕ) → i < t → (i ≡ q → ⊥) → w i ≡ u i) → u q ≡ 0 → w q ≡ v 0
     → ((i : ℕ) → 0 < i → i < s → w (new_term t i) ≡ v i) → sum w (t + s - 1) ≡ sum u t + sum v s
 unfolding sum
@@ -56,7 +56,7 @@ sum_edited w u v q t s k pos same z root added =
     sum_same (λ i. w (t + i)) (λ i. v (1 + i)) c (λ i l. let j : t + i ≡ new_term t (1 + i) = omega arith in ap w j ∙ added (1 + i) (omega arith) (omega arith)) in
     omega (arith, sum_split w t c, sum_split v 1 c, sum_but w u q t k same z)
 
-__ HOW OFTEN A NUMBER STANDS IN MOVED LINKS
+-- HOW OFTEN A NUMBER STANDS IN MOVED LINKS
 below_moved : (p n : ℕ) (ms : List ℕ) → n < p → hits n (map (new_prop p) ms) ≡ 0
 below_moved p n ms k = hits_none n (map (new_prop p) ms) (λ x. let z = hit_moved (new_prop p) n ms x in omega (arith, z.1))
 
@@ -69,7 +69,7 @@ below_terms t n ms k h = hits_none n (map (new_term t) ms) (λ x. let z = hit_mo
 term_moved : (t i : ℕ) (ms : List ℕ) → 0 < i → ((m : ℕ) → 0 < hits m ms → 0 < m) → hits (new_term t i) (map (new_term t) ms) ≡ hits i ms
 term_moved t i ms k h = hits_moved (new_term t) i ms (λ m x e. omega (arith, h m x))
 
-__ A SORRY RECORD names nobody
+-- A SORRY RECORD names nobody
 module _ {l : List ℕ} (formed : Formed l) (q : ℕ) (k : q < terms l) (gap : kind_of (term_record l q).kind ≡ Sorry) where
   sorry_links : term_links (term_record l q) ≡ []
   unfolding term_children term_shape
@@ -83,7 +83,7 @@ module _ {l : List ℕ} (formed : Formed l) (q : ℕ) (k : q < terms l) (gap : k
       ap (λ (tag : ℕ). annotation_links tag (term_record l q).typ) untyped
 
 module _ {old f : List ℕ} {q : ℕ} {e : List ℕ} (E : Edited old f q e) (k : q < terms old) (pos : 0 < terms f) (formed : Formed old) (gap : kind_of (term_record old q).kind ≡ Sorry) where
-  __ ALL LINKS: the old ones, and the filling's moved
+  -- ALL LINKS: the old ones, and the filling's moved
   props_sum : (n : ℕ) → sum (λ m. hits n (prop_links (prop_record e m))) (props e)
       ≡ sum (λ m. hits n (prop_links (prop_record old m))) (props old) + sum (λ j. hits n (map (new_prop (props old)) (prop_links (prop_record f j)))) (props f)
   props_sum n =
@@ -116,9 +116,9 @@ module _ {old f : List ℕ} {q : ℕ} {e : List ℕ} (E : Edited old f q e) (k :
       moved i t z = ap (λ (r : Record). hits n (term_links (as_term r))) z ∙ ap (hits n) (term_links_moved (props old) (terms old) (term_bytes f i))
 
   module _ (h : Linked Check old) (g : Linked Filling f) where
-    __ PROPOSITIONS: an old one
-    old-prop-once : (n : ℕ) → n < props old → prop_named Check e n ≡ 1
-    old-prop-once n x =
+    -- PROPOSITIONS: an old one
+    old_prop_once : (n : ℕ) → n < props old → prop_named Check e n ≡ 1
+    old_prop_once n x =
         let a : hits n (expected e ∷ []) ≡ hits n (expected old ∷ []) = ap (λ (m : ℕ). hits n (m ∷ [])) (expected_joined E) in
         omega (
           arith,
@@ -129,10 +129,10 @@ module _ {old f : List ℕ} {q : ℕ} {e : List ℕ} (E : Edited old f q e) (k :
           sum_zero (λ i. hits n (map (new_prop (props old)) (annotation (term_record f i)))) (terms f) (λ i _. below_moved (props old) n (annotation (term_record f i)) x),
         )
 
-    __ a moved one
-    new-prop-once : (j : ℕ) → j < props f → prop_named Check e (new_prop (props old) j) ≡ 1
+    -- a moved one
+    new_prop_once : (j : ℕ) → j < props f → prop_named Check e (new_prop (props old) j) ≡ 1
     unfolding hits
-    new-prop-once j x =
+    new_prop_once j x =
         let n : ℕ = new_prop (props old) j in
         let a : hits n (expected e ∷ []) ≡ 0 = hits_none n (expected e ∷ []) (λ y. goal (hit_either n (expected e) [] y)) in
         omega (
@@ -150,12 +150,12 @@ module _ {old f : List ℕ} {q : ℕ} {e : List ℕ} (E : Edited old f q e) (k :
         goal (inl z) = omega (arith, expected_joined E, expected_in h)
         goal (inr z) = hit_not (new_prop (props old) j) z
 
-    __ TERMS: an old one
+    -- TERMS: an old one
     positive : (i : ℕ) → i < terms f → (m : ℕ) → 0 < hits m (term_links (term_record f i)) → 0 < m
     positive i x m y = omega (arith, (term_child (directed g) i m x y).0)
 
-    old-term-once : (t : ℕ) → t < terms old → 0 < t → term_named e t ≡ 1
-    old-term-once t x y =
+    old_term_once : (t : ℕ) → t < terms old → 0 < t → term_named e t ≡ 1
+    old_term_once t x y =
         omega (
           arith,
           term_once h t y x,
@@ -163,9 +163,9 @@ module _ {old f : List ℕ} {q : ℕ} {e : List ℕ} (E : Edited old f q e) (k :
           sum_zero (λ i. hits t (map (new_term (terms old)) (term_links (term_record f i)))) (terms f) (λ i z. below_terms (terms old) t (term_links (term_record f i)) x (positive i z)),
         )
 
-    __ a moved one
-    new-term-once : (i : ℕ) → 0 < i → i < terms f → term_named e (new_term (terms old) i) ≡ 1
-    new-term-once i x y =
+    -- a moved one
+    new_term_once : (i : ℕ) → 0 < i → i < terms f → term_named e (new_term (terms old) i) ≡ 1
+    new_term_once i x y =
         let n : ℕ = new_term (terms old) i in
         omega (
           arith,
@@ -176,14 +176,14 @@ module _ {old f : List ℕ} {q : ℕ} {e : List ℕ} (E : Edited old f q e) (k :
               (λ j z. term_moved (terms old) i (term_links (term_record f j)) x (positive j z)),
         )
 
-    __ TEST 5
-    pub edited-linked : Directed e → Linked Check e
+    -- TEST 5
+    pub edited_linked : Directed e → Linked Check e
     unfolding badly_linked_prop badly_linked_term
-    edited-linked d =
+    edited_linked d =
         record {
           goal = lt-ltb (expected e) (props e) (omega (arith, expected_joined E, props_joined E, expected_in h));
-          prop = λ n x. rw (d.prop n x, eq-eqb (prop_named Check e n) 1 (prop_cases E (λ n _. prop_named Check e n ≡ 1) old-prop-once new-prop-once n x)) refl;
-          term = λ t x. rw (d.term t x) (at t (same_or t 0) (term-cases E k pos (λ t _. 0 < t → term_named e t ≡ 1) (λ t y _. old-term-once t y) (old-term-once q k) (λ i y z _. new-term-once i y z) t x));
+          prop = λ n x. rw (d.prop n x, eq-eqb (prop_named Check e n) 1 (prop_cases E (λ n _. prop_named Check e n ≡ 1) old_prop_once new_prop_once n x)) refl;
+          term = λ t x. rw (d.term t x) (at t (same_or t 0) (term_cases E k pos (λ t _. 0 < t → term_named e t ≡ 1) (λ t y _. old_term_once t y) (old_term_once q k) (λ i y z _. new_term_once i y z) t x));
         }
       where
         at : (t : ℕ) → (t ≡ 0) ⊎ (t ≡ 0 → ⊥) → (0 < t → term_named e t ≡ 1) → not (eqb t 0 || eqb (term_named e t) 1) ≡ false

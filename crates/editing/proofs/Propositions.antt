@@ -1,5 +1,5 @@
-__ The propositions of a table joined with a filling: the old ones stand for what they stood for.
-__ Assumes nothing.
+-- The propositions of a table joined with a filling: the old ones stand for what they stood for.
+-- Assumes nothing.
 use mathlib.Core.Path.{◌≡◌, refl, ap, sym, subst, ◌∙◌}
 use mathlib.Core.Bool.{Bool, true, false}
 use mathlib.Core.List.{List, map}
@@ -23,7 +23,7 @@ use Rattle.editing.specs.Edited.{new_prop, Joined}
 use Rattle.editing.proofs.Moves.{hit_moved, hits_none, prop_links_moved}
 use Rattle.editing.proofs.Joins.{props_joined, prop_cases}
 
-__ A SEARCH over more numbers, of which the new ones do not pass
+-- A SEARCH over more numbers, of which the new ones do not pass
 pub never : (b : Bool) → b ≡ true → b ≡ false → ⊥
 never b x y = let z : ◌≡◌ {A = ℕ} 0 1 = cc in omega arith
 
@@ -58,7 +58,7 @@ module _ (t u : ℕ → Bool) (a b : ℕ) (same : (i : ℕ) → i < a → u i �
           absurd (never (t i) (sym (same i k) ∙ x.1) (first_clear t a d i k))
       at Nobody e h d = e ∙ sym (first_nobody t a (λ i k. sym (same i k) ∙ first_clear u (a + b) e i (omega arith)))
 
-__ PROPOSITIONS of one reading in another table, if the quantifiers above are the same
+-- PROPOSITIONS of one reading in another table, if the quantifiers above are the same
 prop_of_binders : (l l' : List ℕ) (n : ℕ) (sub : ℕ → Prop) (K : PropKind) (r : Record) → binders l n ≡ binders l' n → prop_of l n sub K r ≡ prop_of l' n sub K r
 unfolding prop_of
 prop_of_binders l l' n sub (constant b) r e = refl
@@ -67,7 +67,7 @@ prop_of_binders l l' n sub (quantified q) r e = refl
 prop_of_binders l l' n sub atomic r e = ap (λ (ys : List ℕ). atom (table n) r.a (map (λ x. settled x 0 ys) (take r.count r.parameters))) e
 prop_of_binders l l' n sub strange r e = refl
 
-__ A TABLE WITH MORE PROPOSITIONS, of which the new ones name none of the old
+-- A TABLE WITH MORE PROPOSITIONS, of which the new ones name none of the old
 module _ (l l' : List ℕ) (d : Directed l) (more : props l ≤ props l') (same : (n : ℕ) → n < props l → prop_record l' n ≡ prop_record l n)
     (unnamed : (n : ℕ) → n < props l → (p : ℕ) → p < props l' → props l ≤ p → hits n (prop_links (prop_record l' p)) ≡ 0) where
   parent_same : (n : ℕ) → n < props l → parent l' n ≡ parent l n
@@ -107,7 +107,7 @@ module _ (l l' : List ℕ) (d : Directed l) (more : props l ≤ props l') (same 
   prop_kept n k = reads_same (suc n) n k
 
 module _ {old f : List ℕ} {q : ℕ} {r : Record} {e : List ℕ} (J : Joined old f q r e) (d : Directed old) where
-  __ no proposition of the filling names one of the old table
+  -- no proposition of the filling names one of the old table
   unnamed : (n : ℕ) → n < props old → (p : ℕ) → p < props e → props old ≤ p → hits n (prop_links (prop_record e p)) ≡ 0
   unnamed n k =
       prop_cases J (λ p r. props old ≤ p → hits n (prop_links r) ≡ 0) (λ p x y. absurd (omega arith)) λ j x y.
@@ -115,6 +115,6 @@ module _ {old f : List ℕ} {q : ℕ} {r : Record} {e : List ℕ} (J : Joined ol
       let w = hit_moved (new_prop (props old)) n (prop_links (prop_record f j)) (subst (λ ms. 0 < hits n ms) (prop_links_moved (props old) (prop_record f j)) z) in
       omega (arith, w.1)
 
-  __ so the old propositions stand for what they stood for
+  -- so the old propositions stand for what they stood for
   pub prop_same : (n : ℕ) → n < props old → prop_at e n ≡ prop_at old n
   prop_same = prop_kept old e d (omega (arith, props_joined J)) J.old_prop unnamed

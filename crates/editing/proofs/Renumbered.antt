@@ -1,5 +1,5 @@
-__ The filling's propositions and terms in the edited table: what they stood for, with the records' new numbers.
-__ Assumes nothing.
+-- The filling's propositions and terms in the edited table: what they stood for, with the records' new numbers.
+-- Assumes nothing.
 use mathlib.Core.Path.{◌≡◌, refl, ap, sym, subst⁻¹, ◌∙◌}
 use mathlib.Core.Bool.{Bool, false, cond}
 use mathlib.Core.List.{List, [], map, map-id}
@@ -30,9 +30,9 @@ use Rattle.editing.specs.Renumbered.{renumbered_origin, renumbered_type, renumbe
 use Rattle.editing.proofs.Moves.{hits_none, hits_moved, prop_links_moved}
 use Rattle.editing.proofs.Joins.{below_or, props_joined, terms_joined}
 use Rattle.editing.proofs.Propositions.{never, least_only}
-use Rattle.editing.proofs.Edits.{replaces, whole_prop, whole-directed, filled-term}
+use Rattle.editing.proofs.Edits.{replaces, whole_prop, whole_directed, filled_term}
 
-__ A SEARCH that finds nobody among the first a numbers
+-- A SEARCH that finds nobody among the first a numbers
 abbrev shifted : ℕ → Guilty → Guilty
 shifted a (At i) = At (a + i)
 shifted a Nobody = Nobody
@@ -59,7 +59,7 @@ module _ (t u : ℕ → Bool) (a b : ℕ) (early : (i : ℕ) → i < a → u i �
           absurd (never (u (a + j)) (same j y.0 ∙ y.1) (first_clear u (a + b) e (a + j) (omega arith)))
       at Nobody e Nobody d = e ∙ sym (ap (shifted a) d)
 
-__ PROPOSITIONS. A moved quantifier keeps its object name
+-- PROPOSITIONS. A moved quantifier keeps its object name
 object_moved : (p : ℕ) (K : PropKind) (r : Record) (xs : List ℕ) → object K (moved_children (prop_shape K).children p r).a xs ≡ object K r.a xs
 unfolding object prop_shape
 object_moved p (constant b) r xs = refl
@@ -71,7 +71,7 @@ object_moved p strange r xs = refl
 abbrev moved_at : ℕ → ℕ → Prop → Prop
 moved_at p d P = walk (renumbered_origin p) (λ d x. x) d P
 
-__ a moved record, from what its children stand for
+-- a moved record, from what its children stand for
 prop_of_moved : (p : ℕ) (e f : List ℕ) (j d : ℕ) (K : PropKind) (r : Record) → binders e (p + j) ≡ binders f j
     → ((m : ℕ) → 0 < hits m (prop_children (prop_shape K).children r) → (d : ℕ) → prop_at e (p + m) ≡ moved_at p d (prop_at f m))
     → prop_of e (p + j) (prop_at e) K (moved_children (prop_shape K).children p r) ≡ moved_at p d (prop_of f j (prop_at f) K r)
@@ -88,7 +88,7 @@ module _ {old f : List ℕ} {q : ℕ} {r : Record} {e : List ℕ} (J : Joined ol
   abbrev p : ℕ
   p = props old
 
-  __ no old proposition names one of the filling, and those of the filling name each other as before
+  -- no old proposition names one of the filling, and those of the filling name each other as before
   parent_moved : (j : ℕ) → parent e (p + j) ≡ shifted p (parent f j)
   unfolding parent
   parent_moved j =
@@ -126,14 +126,14 @@ module _ {old f : List ℕ} {q : ℕ} {r : Record} {e : List ℕ} (J : Joined ol
       ∙ prop_of_moved p e f j d K (prop_record f j) (binders_moved j k) ih
       ∙ ap (moved_at p d) (sym (prop_step df j k))
 
-  __ ANNOTATIONS
+  -- ANNOTATIONS
   type_moved : (tag m : ℕ) → (tag ≡ 1 → m < props f) → type_of e tag (cond (eqb tag 1) (p + m) m) ≡ renumbered_annotation p (type_of f tag m)
   unfolding type_of
   type_moved zero m h = refl
   type_moved (suc zero) m h = ap (λ (P : Prop). some (prop P)) (prop_moved m (h refl) 0)
   type_moved (suc (suc k)) m h = rw (ne_eqb (suc (suc k)) 1 (λ z. omega arith))
 
-__ TERMS: a moved record, from what its children stand for
+-- TERMS: a moved record, from what its children stand for
 module _ (p t : ℕ) (g : ℕ → ℕ) (i : ℕ) (sub sub' : ℕ → Term) where
   ascribed_moved : (A : Option Ty) (a a' : Term) → a' ≡ renumbered p g a → ascribed (g i) (renumbered_annotation p A) a' ≡ renumbered p g (ascribed i A a)
   unfolding ascribed renumbered
@@ -193,17 +193,17 @@ module _ {old f : List ℕ} {q : ℕ} {e : List ℕ} (E : Edited old f q e) (d :
       (λ c y. ap (term_at e) (sym (later c (omega (arith, (term_child df i c x y).0)))) ∙ ih c y)
       ∙ ap (renumbered (props old) there) (sym (term_step df i x))
 
-__ THE EDITED TABLE
+-- THE EDITED TABLE
 pub edited_stands_for : EditedStandsFor
 edited_stands_for old f q e h E =
     let o = good_passed h.old_good in
     let g = good_passed h.good in
     let d = directed o.linked in
     let df = directed g.linked in
-    let de = whole-directed h E (replaces h) in
+    let de = whole_directed h E (replaces h) in
     let hole : term_at e q ≡ filling_in old f q = term_there E d df de h.inside 0 g.counted.some in
     record {
-      root = filled-term h E 0 o.counted.some ∙ ap (λ (u : Term). plug q u (term_at old 0)) hole;
+      root = filled_term h E 0 o.counted.some ∙ ap (λ (u : Term). plug q u (term_at old 0)) hole;
       hole = hole;
       old_prop = whole_prop h E;
       added_prop = λ j x. prop_moved E d df de j x 0;

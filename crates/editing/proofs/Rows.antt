@@ -1,5 +1,5 @@
-__ Records copied in a row, and the edited table made of four rows, a header and the filling's root.
-__ Assumes nothing.
+-- Records copied in a row, and the edited table made of four rows, a header and the filling's root.
+-- Assumes nothing.
 use mathlib.Core.Path.{◌≡◌, refl, ap, sym, subst, subst⁻¹, transport, ◌∙◌}
 use mathlib.Core.List.{List}
 use mathlib.Core.Logic.{◌⊎◌, inl, inr}
@@ -17,7 +17,7 @@ use Rattle.editing.specs.Edited.{new_term, moved_prop, moved_term, all_props, al
 use Rattle.editing.specs.Copied.{changed, PropMoves, TermMoves, Moves, RowMoves, Copied, Waiting}
 use Rattle.editing.proofs.Joins.{same_or, props_joined}
 
-__ A ROW, record by record
+-- A ROW, record by record
 pub copied_none : (g : Record → Record) (src : List ℕ) (first : ℕ) (l : List ℕ) (to : ℕ) → Copied g src first 0 l to l
 copied_none g src first l to = record { size = refl; here = λ i k. absurd (omega arith); before = λ m k. refl }
 
@@ -37,7 +37,7 @@ copied_more g src first n old to mid r m new c e h p =
 pub copied_all : (g : Record → Record) (src : List ℕ) (first n i : ℕ) (old : List ℕ) (to : ℕ) (new : List ℕ) → i ≤ n → n ≤ i → Copied g src first i old to new → Copied g src first n old to new
 copied_all g src first n i old to new a b c = subst (λ i. Copied g src first i old to new) (omega arith) c
 
-__ WHAT MAY BE MOVED: the filling's records, to a table that keeps the limits
+-- WHAT MAY BE MOVED: the filling's records, to a table that keeps the limits
 module _ {old f : List ℕ} (o : Counted old) (g : Counted f) (d : Directed f) where
   term_moves : (i n : ℕ) → i < terms f → props f + i + 1 ≡ n → TermMoves (props old) (terms old) (record_at f n)
   term_moves i n k e =
@@ -50,7 +50,7 @@ module _ {old f : List ℕ} (o : Counted old) (g : Counted f) (d : Directed f) w
         typ = λ m x. omega (arith, annotation_in d i m k x, g.propositions);
       }
 
-  __ in rows, with the counts as the code has them
+  -- in rows, with the counts as the code has them
   module _ (P p : ℕ) (P-is : P ≡ props old) (p-is : p ≡ props f) where
     pub prop_row : RowMoves (to.Proposition P) f 1 p
     prop_row i k =
@@ -61,18 +61,18 @@ module _ {old f : List ℕ} (o : Counted old) (g : Counted f) (d : Directed f) w
     pub term_row : (T t : ℕ) → T ≡ terms old → t ≡ terms f → RowMoves (to.Term P T) f (p + 2) (t - 1)
     term_row T t T-is t-is i k = transport (λ j. TermMoves (sym P-is j) (sym T-is j) (record_at f (p + 2 + i))) (term_moves (i + 1) (p + 2 + i) (omega arith) (omega arith))
 
-  __ its root in particular, with what the code knows of it
+  -- its root in particular, with what the code knows of it
   module _ (p t : ℕ) (p-is : p ≡ props old) (t-is : t ≡ terms old) (r : Record) (r-is : r ≡ term_bytes f 0) where
-    pub root-moves : TermMoves p t r
-    root-moves = transport (λ i. TermMoves (sym p-is i) (sym t-is i) (sym r-is i)) (term_moves 0 (props f + 0 + 1) g.some refl)
+    pub root_moves : TermMoves p t r
+    root_moves = transport (λ i. TermMoves (sym p-is i) (sym t-is i) (sym r-is i)) (term_moves 0 (props f + 0 + 1) g.some refl)
 
-    pub root-moved : (m : Record) → m ≡ moved_term p t r → m ≡ moved_term (props old) (terms old) (term_bytes f 0)
-    root-moved m x = x ∙ (λ i. moved_term (p-is i) (t-is i) (r-is i))
+    pub root_moved : (m : Record) → m ≡ moved_term p t r → m ≡ moved_term (props old) (terms old) (term_bytes f 0)
+    root_moved m x = x ∙ (λ i. moved_term (p-is i) (t-is i) (r-is i))
 
 pub row_at : (change : Change) (src : List ℕ) (first n i : ℕ) (r : Record) → RowMoves change src first n → i < n → r ≡ record_at src (first + i) → Moves change r
 row_at change src first n i r h k e = subst⁻¹ (Moves change) e (h i k)
 
-__ WHERE THE CODE READS AND WRITES, with what it knows of the counts
+-- WHERE THE CODE READS AND WRITES, with what it knows of the counts
 pub term_at_count : (l : List ℕ) (p t : ℕ) (r : Record) → p ≡ props l → r ≡ record_at l (p + t + 1) → r ≡ term_bytes l t
 term_at_count l p t r e h = h ∙ ap (λ (n : ℕ). record_at l (n + t + 1)) e
 
@@ -86,7 +86,7 @@ props_at : (l : List ℕ) → props l ≡ (record_at l 0).c
 unfolding record_at
 props_at l = refl
 
-__ ANOTHER RECORD FOR TERM q of a joined table
+-- ANOTHER RECORD FOR TERM q of a joined table
 module _ {old f : List ℕ} {q : ℕ} {r : Record} {e : List ℕ} (J : Joined old f q r e) (k : q < terms old) where
   pub joined_inside : 1 ≤ terms f → 16 * (props e + q + 1) + 16 ≤ length e
   joined_inside pos = omega (arith, J.size, props_joined J)
@@ -106,7 +106,7 @@ module _ {old f : List ℕ} {q : ℕ} {r : Record} {e : List ℕ} (J : Joined ol
       at : (t : ℕ) → term_bytes new t ≡ record_at new (props e + t + 1)
       at t = ap (λ (n : ℕ). record_at new (n + t + 1)) (props_at new ∙ ap (λ (h : Record). h.c) (p.others 0 (λ z. omega arith)) ∙ sym (props_at e))
 
-__ THE CODE'S HEADER AND FOUR ROWS are the old table joined with the filling, the Sorry record still there; P, T, p and t are the counts as the code has them
+-- THE CODE'S HEADER AND FOUR ROWS are the old table joined with the filling, the Sorry record still there; P, T, p and t are the counts as the code has them
 module _ (old f : List ℕ) (P T p t : ℕ) (P-is : P ≡ props old) (T-is : T ≡ terms old) (p-is : p ≡ props f) (t-is : t ≡ terms f) (some : 1 ≤ terms f)
     (e₀ : List ℕ) (long : length e₀ ≡ edited_size old f)
     (e₁ : List ℕ) (h : Put e₀ 0 (recounted (P + p) (T + (t - 1)) (record_at old 0)) e₁)
@@ -161,7 +161,7 @@ module _ (old f : List ℕ) (P T p t : ℕ) (P-is : P ≡ props old) (T-is : T �
       back : (i : ℕ) → 0 < i → p + 2 + (i - 1) ≡ props f + i + 1
       back i x = omega arith
 
-__ then the filling's root goes to its place
+-- then the filling's root goes to its place
 pub edited_put : {old f e : List ℕ} → Waiting old f e → (q : ℕ) → q < terms old → (m : Record) → m ≡ moved_term (props old) (terms old) (term_bytes f 0)
     → (new : List ℕ) → Put e (props e + q + 1) m new → Edited old f q new
 edited_put {old} {f} w q k m m-is new p = subst (λ r. Joined old f q r new) m-is (joined_put (w q k) k m new p)

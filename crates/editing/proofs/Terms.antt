@@ -1,5 +1,5 @@
-__ The terms of a table joined with a filling: an old term stands for what it stood for, with what now stands at the Sorry record q in that Sorry's place.
-__ Assumes nothing.
+-- The terms of a table joined with a filling: an old term stands for what it stood for, with what now stands at the Sorry record q in that Sorry's place.
+-- Assumes nothing.
 use mathlib.Core.Path.{◌≡◌, refl, ap, sym, subst⁻¹, ◌∙◌}
 use mathlib.Core.Bool.{Bool, true, false, cond}
 use mathlib.Core.List.{List, []}
@@ -24,7 +24,7 @@ use Rattle.editing.specs.Edited.{Joined}
 use Rattle.editing.proofs.Joins.{same_or, terms_joined}
 use Rattle.editing.proofs.Propositions.{prop_same}
 
-__ PLUGGING into a record's reading, which is no Sorry record q, is plugging into its children
+-- PLUGGING into a record's reading, which is no Sorry record q, is plugging into its children
 module _ (q : ℕ) (u : Term) (t : ℕ) (other : t ≡ q → ⊥) where
   plug_other : plug q u (sorry t) ≡ sorry t
   unfolding plug
@@ -53,7 +53,7 @@ plug_here : (q : ℕ) (u : Term) → plug q u (sorry q) ≡ u
 unfolding plug
 plug_here q u = rw (eq-eqb q q refl)
 
-__ a Sorry in its own place changes nothing
+-- a Sorry in its own place changes nothing
 plug_self : (q : ℕ) (t : Term) → plug q (sorry q) t ≡ t
 unfolding plug
 plug_self q (leaf p k) = refl
@@ -66,12 +66,12 @@ plug_self q (sorry p) = at (eqb p q) refl
     at true e = ap sorry (sym (eqb-true p q e))
     at false e = refl
 
-__ A SORRY RECORD is a Sorry
+-- A SORRY RECORD is a Sorry
 pub sorry_at : {l : List ℕ} → Directed l → (t : ℕ) → t < terms l → kind_of (term_record l t).kind ≡ Sorry → term_at l t ≡ sorry t
 unfolding term_of
 sorry_at {l} d t k e = term_step d t k ∙ ap (λ (K : Kind). term_of t (annotated l t) (term_at l) K (term_record l t)) e
 
-__ an annotation asks for propositions under tag 1 only
+-- an annotation asks for propositions under tag 1 only
 type_same : (l l' : List ℕ) (tag m : ℕ) → (tag ≡ 1 → prop_at l m ≡ prop_at l' m) → type_of l tag m ≡ type_of l' tag m
 unfolding type_of
 type_same l l' zero m h = refl
@@ -107,7 +107,7 @@ module _ {old f : List ℕ} {q : ℕ} {r : Record} {e : List ℕ} (J : Joined ol
           ∙ sym (plug_of q u t z (annotated old t) (term_at old) K (term_record old t))
           ∙ ap (plug q u) (sym (term_step d t x))
 
-  __ with a Sorry record at q nothing has changed
+  -- with a Sorry record at q nothing has changed
   pub term_same : kind_of (as_term r).kind ≡ Sorry → (t : ℕ) → t < terms old → term_at e t ≡ term_at old t
   term_same s t x =
       term_plugged t x

@@ -1,5 +1,5 @@
-__ How the code copies records into the edited table: so many of them in a row, each as it is or with its links moved.
-__ Assumes nothing.
+-- How the code copies records into the edited table: so many of them in a row, each as it is or with its links moved.
+-- Assumes nothing.
 use Rattle.std.specs.Prelude.{◌≡◌, List, ℕ, ◌+◌, ◌<◌, ◌≤◌, length}
 use Rattle.numbers.specs.declared.record.Record.{Record}
 use Rattle.numbers.specs.Limits.{most_propositions, most_terms}
@@ -10,13 +10,13 @@ use Rattle.editing.specs.declared.moving.Change.{Change}
 use Rattle.editing.specs.declared.moving.Change.TheVariants as to
 use Rattle.editing.specs.Edited.{moved_prop, moved_term, term_bytes, Joined}
 
-__ what becomes of a record
+-- what becomes of a record
 unfoldable pub changed : Change → Record → Record
 changed to.Stays r = r
 changed (to.Proposition p) r = moved_prop p r
 changed (to.Term p t) r = moved_term p t r
 
-__ NO NUMBER OVERFLOWS when it is moved: the links, and the counts of the table that they come to, are within a table's limits
+-- NO NUMBER OVERFLOWS when it is moved: the links, and the counts of the table that they come to, are within a table's limits
 abbrev pub Within : ℕ → List ℕ → Type 0
 Within most ms = (m : ℕ) → 0 < hits m ms → m ≤ most
 
@@ -39,12 +39,12 @@ Moves (to.Term p t) r = TermMoves p t r
 abbrev pub RowMoves : Change → (src : List ℕ) (first n : ℕ) → Type 0
 RowMoves change src first n = (i : ℕ) → i < n → Moves change (record_at src (first + i))
 
-__ n RECORDS IN A ROW of the list src, from number `first` on, stand in `new` from number `to` on, changed by g; those before them are as in `old`
+-- n RECORDS IN A ROW of the list src, from number `first` on, stand in `new` from number `to` on, changed by g; those before them are as in `old`
 pub record Copied (g : Record → Record) (src : List ℕ) (first n : ℕ) (old : List ℕ) (to : ℕ) (new : List ℕ) : Type 0 where
   pub size : length new ≡ length old
   pub here : (i : ℕ) → i < n → record_at new (to + i) ≡ g (record_at src (first + i))
   pub before : (m : ℕ) → m < to → record_at new m ≡ record_at old m
 
-__ ALL ROWS: the table joined with the filling f while every term of the old one, a Sorry record too, is as it was
+-- ALL ROWS: the table joined with the filling f while every term of the old one, a Sorry record too, is as it was
 abbrev pub Waiting : (old f e : List ℕ) → Type 0
 Waiting old f e = (q : ℕ) → q < terms old → Joined old f q (term_bytes old q) e

@@ -1,6 +1,6 @@
-__ What the edited table stands for: the old script with the filling in the Sorry's place. Of the filling nothing changes but its
-__ record numbers, so what the rules run at the hole is what its author wrote. Proved in proofs/Renumbered.antt.
-__ Assumes nothing.
+-- What the edited table stands for: the old script with the filling in the Sorry's place. Of the filling nothing changes but its
+-- record numbers, so what the rules run at the hole is what its author wrote. Proved in proofs/Renumbered.antt.
+-- Assumes nothing.
 use Rattle.std.specs.Prelude.{◌≡◌, cond, List, ℕ, ◌<◌, eqb}
 use Rattle.std.proofs.Math.Option.{Option, none, some}
 use Rattle.layout.specs.File.{props, terms}
@@ -9,7 +9,7 @@ use Rattle.rules.specs.Term.{Single, fst, snd, left, right, abort, fun, ascribe,
 use Rattle.table.specs.Reading.{prop_at, term_at}
 use Rattle.editing.specs.Edited.{new_prop, new_term, Fillable, Edited}
 
-__ A PROPOSITION of the filling, in a table that had p of them: its nodes stand elsewhere, and its parameters stay
+-- A PROPOSITION of the filling, in a table that had p of them: its nodes stand elsewhere, and its parameters stay
 abbrev pub renumbered_origin : ℕ → Origin → Origin
 renumbered_origin p (table n) = table (new_prop p n)
 renumbered_origin p made = made
@@ -34,7 +34,7 @@ renumbered_single p abort = abort
 renumbered_single p (fun x A) = fun x (renumbered_annotation p A)
 renumbered_single p (ascribe T) = ascribe (renumbered_type p T)
 
-__ A TERM of it, whose node i is now number g i
+-- A TERM of it, whose node i is now number g i
 unfoldable pub renumbered : ℕ → (ℕ → ℕ) → Term → Term
 renumbered p g (leaf i k) = leaf (g i) k
 renumbered p g (single i k a) = single (g i) (renumbered_single p k) (renumbered p g a)
@@ -42,14 +42,14 @@ renumbered p g (double i k a b) = double (g i) k (renumbered p g a) (renumbered 
 renumbered p g (triple i k a b c) = triple (g i) k (renumbered p g a) (renumbered p g b) (renumbered p g c)
 renumbered p g (sorry i) = sorry (g i)
 
-__ the root has the Sorry record's number q, and the others stand behind the t old terms
+-- the root has the Sorry record's number q, and the others stand behind the t old terms
 abbrev pub new_place : (t q i : ℕ) → ℕ
 new_place t q i = cond (eqb i 0) q (new_term t i)
 
 abbrev pub filling_in : (old f : List ℕ) → ℕ → Term
 filling_in old f q = renumbered (props old) (new_place (terms old) q) (term_at f 0)
 
-__ THE EDITED TABLE's root, its hole, and the propositions of both
+-- THE EDITED TABLE's root, its hole, and the propositions of both
 pub record StandsFor (old f : List ℕ) (q : ℕ) (e : List ℕ) : Type 0 where
   pub root : term_at e 0 ≡ plug q (filling_in old f q) (term_at old 0)
   pub hole : term_at e q ≡ filling_in old f q

@@ -1,4 +1,4 @@
-__ Answers told apart. Assumes nothing.
+-- Answers told apart. Assumes nothing.
 use mathlib.Core.Path.{◌≡◌, refl, ap, sym, ◌∙◌}
 use mathlib.Core.Bool.{Bool, true, false, ◌&&◌, false≢true}
 use mathlib.Core.List.{List}
@@ -20,7 +20,7 @@ pub both_true : (a b : Bool) → a && b ≡ true → (a ≡ true) × (b ≡ true
 both_true true b h = (refl, h)
 both_true false b h = absurd (false≢true h)
 
-__ MARKS
+-- MARKS
 abbrev pub is_accepted : Mark → Bool
 is_accepted (mark.Accepted c) = true
 is_accepted (mark.Refused r) = false
@@ -33,7 +33,7 @@ abbrev pub counts_of_mark : Counts → Mark → Counts
 counts_of_mark d (mark.Accepted c) = c
 counts_of_mark d (mark.Refused r) = d
 
-__ RUNS
+-- RUNS
 abbrev pub is_ok : Out Answer → Bool
 is_ok (stop r) = false
 is_ok (ok a st) = true
@@ -45,7 +45,7 @@ answered d (ok a st) = a
 pub same_answer : {o : Out Answer} {a b : Answer} {st su : St} → o ≡ ok a st → o ≡ ok b su → a ≡ b
 same_answer {a = a} e f = ap (answered a) (sym e ∙ f)
 
-__ a table that is accepted passed its tests
+-- a table that is accepted passed its tests
 pub table_ok : (l : List ℕ) (a : Answer) (st : St) → table_run l ≡ ok a st → Good Check l × (root_run l ≡ ok a st)
 unfolding unless_refused
 table_ok l a st h = at (tests Check l) refl h

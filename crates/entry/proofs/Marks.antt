@@ -1,4 +1,4 @@
-__ From the run to the mark. Assumes nothing.
+-- From the run to the mark. Assumes nothing.
 use mathlib.Core.Path.{◌≡◌, refl, ap, ap₂, sym, subst, subst⁻¹, ◌∙◌}
 use mathlib.Core.Bool.{Bool, true, false, ◌&&◌, cond}
 use mathlib.Core.List.{List, ◌++◌}
@@ -39,7 +39,7 @@ use Rattle.entry.specs.Ran.{Exact, Ran, RanAs}
 use Rattle.entry.proofs.Answers.{both_true}
 use Rattle.entry.proofs.Rests.{cleared_exact, cleared_parts, cleared_front, same_record, same_goal, front_byte}
 
-__ ROOMS WITH THE SAME RECORDS AND GOALS hold the same
+-- ROOMS WITH THE SAME RECORDS AND GOALS hold the same
 module _ {l : List ℕ} {a : Answer} {st : St} (R R' : Rooms) (h : Holds l R a st) where
   holds_on : Same (records a.tree) R.tree R'.tree → SameGoals (holes a.tree) R.goals R'.goals → Same (props l + st.made) R.props R'.props
       → length R.tree ≤ length R'.tree → length R.goals ≤ length R'.goals → length R.props ≤ length R'.props → Holds l R' a st
@@ -52,7 +52,7 @@ module _ {l : List ℕ} {a : Answer} {st : St} (R R' : Rooms) (h : Holds l R a s
         goals_room = omega (arith, h.goals_room);
       }
 
-__ AFTER THE RUN
+-- AFTER THE RUN
 pub count_fits : (l : List ℕ) (o : Out Answer) (R : Rooms) (r : Outcome) (T : Sort) (st : State) → r ≡ ran.Has T st → Exact R → RanAs l o R r → count_of l st ≤ most_records
 count_fits l o R r T st e x h = let k = subst (RanAs l o R) e h in omega (arith, k.holds.made.room, x.props)
 
@@ -75,7 +75,7 @@ pub finish_refused : (l : List ℕ) (o : Out Answer) (R R' : Rooms) (r : Outcome
     → MarkedAs l R R' o (mark.Refused x)
 finish_refused l o R R' r x e h z = subst⁻¹ (λ (o : Out Answer). MarkedAs l R R' o (mark.Refused x)) (subst (RanAs l o R) e h) (refl, z)
 
-__ an acceptance: its counts are the tree's, and what is left of the rooms is kept
+-- an acceptance: its counts are the tree's, and what is left of the rooms is kept
 pub kept_rest : (l : List ℕ) (o : Out Answer) (R R' : Rooms) (st : State) (r : Ran l o R st) → Rest st.records st.goals (count_of l st) R R' → Kept l R R' r.answer (st_of st)
 kept_rest l o R R' st r z =
     record {
@@ -105,7 +105,7 @@ pub finish_accepted : (l : List ℕ) (o : Out Answer) (R R' : Rooms) (r : Outcom
     → Rest st.records st.goals c R R' → MarkedAs l R R' o (counted st)
 finish_accepted l o R R' r T st c e f h z = accepted l o R R' st (subst (RanAs l o R) e h) (subst (λ (c : ℕ). Rest st.records st.goals c R R') f z)
 
-__ ROOMS OF JUST THE LISTED SIZES: what they held before the run does not count
+-- ROOMS OF JUST THE LISTED SIZES: what they held before the run does not count
 module _ {R R₁ : Rooms} (e : Exact R) (f : Exact R₁) where
   pub emptied_over : {R' : Rooms} → Emptied R₁ R' → Emptied R R'
   emptied_over z =
@@ -130,7 +130,7 @@ marked_over : (l : List ℕ) (R R₁ R' : Rooms) (m : Mark) → Exact R → Exac
 marked_over l R R₁ R' m e f (stop r) h = (h.0, emptied_over e f h.1)
 marked_over l R R₁ R' m e f (ok a st) h = (h.0, kept_over e f h.1)
 
-__ what the tests of a table answer, in a room that is long enough
+-- what the tests of a table answer, in a room that is long enough
 pub verdict_is : (p : Purpose) (l work left : List ℕ) (v : Verdict) → length work ≡ work_bytes → Tested p l work left v → v ≡ tests p l
 unfolding unless
 verdict_is p l work left v h t = t.verdict ∙ rw (le-leb test_room (length work) (omega arith))
@@ -149,12 +149,12 @@ unfolding unless_refused
 table_marked l R R₁ R' m e f v h =
     subst⁻¹ (λ (v : Verdict). MarkedAs l R R' (unless_refused v (root_run l)) m) v (marked_over l R R₁ R' m e f (root_run l) h)
 
-__ ROOMS OF ANY LENGTH
-__ the first bytes of each, as many as are listed
+-- ROOMS OF ANY LENGTH
+-- the first bytes of each, as many as are listed
 abbrev pub firsts : Rooms → Rooms
 firsts R = rooms (take tree_bytes R.tree) (take goals_bytes R.goals) (take props_bytes R.props) (take work_bytes R.work)
 
-__ these bytes written, the others as before
+-- these bytes written, the others as before
 abbrev pub followed : Rooms → Rooms → Rooms
 followed S R = rooms (S.tree ++ drop tree_bytes R.tree) (S.goals ++ drop goals_bytes R.goals) (S.props ++ drop props_bytes R.props) (S.work ++ drop work_bytes R.work)
 

@@ -1,4 +1,4 @@
-__ The statements of specs/Promises.antt, from `Marks`. Assumes nothing.
+-- The statements of specs/Promises.antt, from `Marks`. Assumes nothing.
 use mathlib.Core.Path.{◌≡◌, refl, ap, sym, subst, subst⁻¹, subst₂, ◌∙◌}
 use mathlib.Core.Bool.{Bool, true, false, cond, true≢false, false≢true}
 use mathlib.Core.List.{List, [], ◌∷◌, map, map-append}
@@ -41,7 +41,7 @@ use Rattle.entry.specs.Mark.{long_enough, root_run, unless_refused, table_run, o
 use Rattle.entry.proofs.Answers.{is_accepted, counts_of_mark, is_ok, table_ok}
 use Rattle.entry.specs.Promises.{Accepted, OnlyThen, AlwaysThen, AcceptedHolds, Sorries, GoalsAreSorries, Agree, AgreeNode, AgreeGoal, SameTree, SameIf, TwoRunsAgree}
 
-__ WHAT AN ACCEPTANCE SAYS
+-- WHAT AN ACCEPTANCE SAYS
 outcome_ok : (l : List ℕ) (R : Rooms) (a : Answer) (st : St) → outcome l R ≡ ok a st → (long_enough R ≡ true) × Good Check l × (root_run l ≡ ok a st)
 unfolding outcome
 outcome_ok l R a st h = at (long_enough R) refl h
@@ -74,7 +74,7 @@ always_then l R R' m h c a =
     ap (λ (b : Bool). cond b (table_run l) (refused 1 0)) a.long ∙ ap (λ (v : Verdict). unless_refused v (root_run l)) a.good ∙ a.accepts in
     (subst (λ (o : Out Answer). MarkedAs l R R' o m) is h).0 ∙ ap mark.Accepted (sym a.counts)
 
-__ SOUNDNESS
+-- SOUNDNESS
 none_left : {X : Type 0} (xs : List X) → length xs ≡ 0 → xs ≡ []
 none_left [] e = refl
 none_left (x ∷ xs) e = absurd (omega (arith, e))
@@ -85,14 +85,14 @@ accepted_holds l R R' c h none M ρ =
     let few = sym (holes_goals a.answer.tree) ∙ sym (ap (λ (c : Counts). c.goals) a.counts) ∙ none in
     table_sound l a.good M a.answer a.state a.accepts (none_left (goals a.answer.tree) few) ρ
 
-__ GOALS. Among the gaps' terms, from left to right, a gap's own has its number
+-- GOALS. Among the gaps' terms, from left to right, a gap's own has its number
 pub gap_term : {g : Gap} {ts : Trees} (p : At g ts) → get_or (map (λ (g : Gap). g.term) (goals ts)) (length (before p)) 0 ≡ g.term
 gap_term {g} {ts} p =
     let n : ℕ = length (before p) in
     ap (λ (t : List Gap). get_or (map (λ g. g.term) t) n 0) (goals_at p) ∙ ap (λ (t : List ℕ). get_or t n 0) (map-append (λ g. g.term) (before p) (g ∷ after p))
     ∙ get_or_at (map (λ g. g.term) (before p)) g.term (map (λ g. g.term) (after p)) 0 n (length-map (before p) (λ (g : Gap). g.term))
 
-__ and the i-th goal's record has the i-th of them
+-- and the i-th goal's record has the i-th of them
 goal_terms : (l : List ℕ) (R : Rooms) (c : ℕ) (ts : Trees) → TreesAre l R c 0 0 ts → (i : ℕ) → i < holes ts → (goal_at R.goals i).term.0 ≡ get_or (map (λ g. g.term) (goals ts)) i 0
 goal_terms l R c ts h i k =
     let x = goal_place i ts k in
@@ -113,7 +113,7 @@ goals_are_sorries l R R' c h =
     let z = outcome_ok l R t.answer t.state t.is in
     sorries_are l R' _ (term_at l 0) t.answer.tree c (goals_in_order (term_at l 0) _ _ _ t.answer t.state z.2) (ap (λ (c : Counts). c.goals) t.counts) t.kept.holds.trees
 
-__ AGREEING NUMBERS: where a record stands shows in what it stands for
+-- AGREEING NUMBERS: where a record stands shows in what it stands for
 origin_of : Prop → Origin
 origin_of (const o b) = o
 origin_of (link o h A B) = o
@@ -169,7 +169,7 @@ types_agree l ps qs (sort.Proposition m) (sort.Datatype d) h = absurd (true≢fa
 types_agree l ps qs (sort.Datatype d) (sort.Proposition n) h = absurd (false≢true (ap is_prop h))
 types_agree l ps qs (sort.Datatype d) (sort.Datatype e) h = (refl, ap datatype_in h)
 
-__ AGREEING TREES
+-- AGREEING TREES
 module _ (l : List ℕ) (R S : Rooms) (c d : ℕ) where
   rec_agrees : (rule term first second premises : ℕ) (T U : Sort) (r s : Record) → reads l R.props T ≡ reads l S.props U → r ≡ node_rec rule term T first second premises
       → s ≡ node_rec rule term U first second premises → AgreeNode l R.props S.props r s
@@ -223,7 +223,7 @@ module _ (l : List ℕ) (R S : Rooms) (c d : ℕ) where
       at true f y z = y lo (ltb-true i _ f)
       at false f y z = z (ltb-false i _ f) (omega arith)
 
-__ so do the rooms after one answer of the rules, whatever else its counts say
+-- so do the rooms after one answer of the rules, whatever else its counts say
 pub same_tree : (l : List ℕ) (R S : Rooms) (a : Answer) (s t : St) (c : Counts) → c.records ≡ records a.tree → c.goals ≡ holes a.tree → Holds l R a s → Holds l S a t → SameTree l R S c
 same_tree l R S a s t c e f h k =
     record {
@@ -232,7 +232,7 @@ same_tree l R S a s t c e f h k =
       table = λ i x. h.table i x ∙ sym (k.table i x);
     }
 
-__ TWO RUNS
+-- TWO RUNS
 same_outcome : (l : List ℕ) (R S : Rooms) → long_enough R ≡ long_enough S → outcome l R ≡ outcome l S
 unfolding outcome
 same_outcome l R S e = ap (λ (b : Bool). cond b (table_run l) (refused 1 0)) e

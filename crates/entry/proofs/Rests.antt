@@ -1,4 +1,4 @@
-__ Rooms that are emptied, wholly or from some byte on. Assumes nothing.
+-- Rooms that are emptied, wholly or from some byte on. Assumes nothing.
 use mathlib.Core.Path.{◌≡◌, ap, ap₂, sym, ◌∙◌}
 use mathlib.Core.List.{List, [], ◌∷◌, ◌++◌, append_assoc}
 use Prim.Native.Nat.{ℕ, ◌+◌, ◌-◌, ◌*◌, ◌<◌, ◌≤◌}
@@ -11,18 +11,18 @@ use Rattle.numbers.proofs.Rooms.{cleared_within, cleared_all}
 use Rattle.step.specs.Trees.{goal_at}
 use Rattle.entry.specs.Rest.{Trimmed}
 
-__ CLEARED. A room of just n bytes
+-- CLEARED. A room of just n bytes
 pub cleared_exact : (n : ℕ) (old new : List ℕ) → length old ≡ n → length new ≡ n → cleared n new ≡ cleared n old
 cleared_exact n old new e f = cleared_all n new (omega arith) ∙ ap (λ (k : ℕ). replicate k 0) (f ∙ sym e) ∙ sym (cleared_all n old (omega arith))
 
-__ a room in two parts, the first of which holds all that is cleared
+-- a room in two parts, the first of which holds all that is cleared
 pub cleared_append : (u : ℕ) (front back : List ℕ) → u ≤ length front → cleared u (front ++ back) ≡ cleared u front ++ back
 cleared_append u front back h =
     let a = length-append front back in
     cleared_within u (front ++ back) (omega arith) ∙ ap (λ (t : List ℕ). replicate u 0 ++ t) (drop-append-le u front back h)
     ∙ sym (append_assoc (replicate u 0) (drop u front) back) ∙ ap (λ (t : List ℕ). t ++ back) (sym (cleared_within u front h))
 
-__ its first n bytes, and the others
+-- its first n bytes, and the others
 pub cleared_parts : (n : ℕ) (old : List ℕ) → n ≤ length old → cleared n (take n old) ++ drop n old ≡ cleared n old
 cleared_parts n old h =
     let t = length-take-le n old h in
@@ -31,7 +31,7 @@ cleared_parts n old h =
 pub cleared_front : (u n : ℕ) (front old : List ℕ) → n ≤ length old → u ≤ length front → cleared u front ≡ cleared n (take n old) → cleared u (front ++ drop n old) ≡ cleared n old
 cleared_front u n front old h k c = cleared_append u front (drop n old) k ∙ ap (λ (t : List ℕ). t ++ drop n old) c ∙ cleared_parts n old h
 
-__ TRIMMED: zeros from u up to s
+-- TRIMMED: zeros from u up to s
 pub trimmed : (u s : ℕ) (old zeros new : List ℕ) → u ≤ s → s ≤ length old → zeros ≡ replicate (length (take (s - u) (drop u old))) 0 → new ≡ take u old ++ (zeros ++ drop (s - u) (drop u old)) → Trimmed u s old new
 trimmed u s old zeros new h k z' e' =
     let d' = length-drop u old in
@@ -55,7 +55,7 @@ trimmed u s old zeros new h k z' e' =
       long = omega arith;
     }
 
-__ THE SAME BYTES up to u are the same records and goals
+-- THE SAME BYTES up to u are the same records and goals
 module _ (u : ℕ) (old new : List ℕ) (same : (i : ℕ) → i < u → get_or new i 0 ≡ get_or old i 0) where
   words : (i : ℕ) → i + 1 < u → word_at new i ≡ word_at old i
   words i h = ap₂ (λ (a b : ℕ). a + 256 * b) (same i (omega arith)) (same (i + 1) h)
@@ -84,6 +84,6 @@ module _ (u : ℕ) (old new : List ℕ) (same : (i : ℕ) → i < u → get_or n
       let w₆ = words (8 * n + 6) (omega arith) in
       λ k. record { term = record { 0 = w₀ k }; proposition = record { 0 = w₂ k }; context = w₄ k; zero = w₆ k }
 
-__ bytes that stand before others
+-- bytes that stand before others
 pub front_byte : (front back : List ℕ) (u i : ℕ) → u ≤ length front → i < u → get_or (front ++ back) i 0 ≡ get_or front i 0
 front_byte front back u i h k = get_or-append front back 0 i (omega arith)

@@ -1,4 +1,4 @@
-__ The root of a table that passes its tests is run as the rules run it. Assumes nothing.
+-- The root of a table that passes its tests is run as the rules run it. Assumes nothing.
 use mathlib.Core.Path.{◌≡◌, ap, ap₂, sym, subst, ◌∙◌}
 use mathlib.Core.List.{List}
 use Prim.Native.Nat.{ℕ, ◌<◌, ◌≤◌}
@@ -35,7 +35,7 @@ use Rattle.entry.specs.Mark.{start_of, root_run}
 use Rattle.entry.specs.Ran.{Exact, Ran, RanAs}
 
 module _ (l : List ℕ) (good : Good Check l) where
-  __ what `load` asks for
+  -- what `load` asks for
   pub loadable : Counted l × (Formed l × WellLinked l)
   loadable =
       let p = good_passed good in
@@ -51,8 +51,8 @@ module _ (l : List ℕ) (good : Good Check l) where
   goal_there n e = omega (arith, expected_in (good_passed good).linked)
 
   module _ (old : List ℕ) (R : Rooms) (e : Exact R) (loaded : load.Loaded l old R.props) where
-    first-loaded : Loaded l R.props (count_of l (beginning none))
-    first-loaded =
+    first_loaded : Loaded l R.props (count_of l (beginning none))
+    first_loaded =
         record {
           arena = subst (λ (c : ℕ). Arena R.props c) (omega arith) loaded.arena;
           first = omega arith;
@@ -61,9 +61,9 @@ module _ (l : List ℕ) (good : Good Check l) where
         }
 
     pub ready : Ready l R 0 (beginning none)
-    ready = ready_root R none good first-loaded (omega (arith, e.tree)) (omega (arith, e.goals)) (omega (arith, e.work))
+    ready = ready_root R none good first_loaded (omega (arith, e.tree)) (omega (arith, e.goals)) (omega (arith, e.work))
 
-    __ the code's run is the rules'
+    -- the code's run is the rules'
     root_is : run_of l R 0 (check (reads l R.props (sort.Proposition (record { 0 = expected l })))) (beginning none) ≡ root_run l
     root_is =
         ap₂ (λ (A : Ty) (Γ : Ctx). run (term_at l 0) (check A) Γ (start_of l)) (ap prop (loaded.means (expected l) (expected_in (good_passed good).linked)))
@@ -91,9 +91,9 @@ module _ (l : List ℕ) (good : Good Check l) where
           goals = omega (arith, left.goals);
         }
 
-    as-ran : (R' : Rooms) (r : Outcome) → Meets l R R' 0 (want.Check (sort.Proposition (record { 0 = expected l }))) (beginning none) r → RanAs l (root_run l) R' r
-    as-ran R' (outcome.Has T st) h = fits R' st (subst (λ (o : Out Answer). Accepts l R R' (beginning none) st o) root_is h.accepted)
-    as-ran R' (outcome.Refused r) h = sym root_is ∙ h
+    as_ran : (R' : Rooms) (r : Outcome) → Meets l R R' 0 (want.Check (sort.Proposition (record { 0 = expected l }))) (beginning none) r → RanAs l (root_run l) R' r
+    as_ran R' (outcome.Has T st) h = fits R' st (subst (λ (o : Out Answer). Accepts l R R' (beginning none) st o) root_is h.accepted)
+    as_ran R' (outcome.Refused r) h = sym root_is ∙ h
 
     pub ran : (R' : Rooms) (r : Outcome) (n : ℕ) → n ≡ expected l → Meets l R R' 0 (want.Check (sort.Proposition (record { 0 = n }))) (beginning none) r → RanAs l (root_run l) R' r
-    ran R' r n e h = as-ran R' r (subst (λ (n : ℕ). Meets l R R' 0 (want.Check (sort.Proposition (record { 0 = n }))) (beginning none) r) e h)
+    ran R' r n e h = as_ran R' r (subst (λ (n : ℕ). Meets l R R' 0 (want.Check (sort.Proposition (record { 0 = n }))) (beginning none) r) e h)

@@ -1,4 +1,4 @@
-__ The mark of any bytes in any rooms, by cases on what document 01 says of them. Assumes nothing.
+-- The mark of any bytes in any rooms, by cases on what document 01 says of them. Assumes nothing.
 use Rattle.std.specs.Prelude.{◌≡◌, Bool, ◌&&◌, cond, List, [], ℕ, ◌+◌, ◌*◌, ◌<◌, ◌≤◌, length, leb}
 use Rattle.numbers.specs.Records.{record_at}
 use Rattle.numbers.specs.Rooms.{cleared}
@@ -24,7 +24,7 @@ use Rattle.entry.specs.declared.Counts.{Counts}
 use Rattle.entry.specs.declared.Mark.{Mark}
 use Rattle.entry.specs.declared.Mark.TheVariants as mark
 
-__ THE LENT ROOMS ("Refusal numbers"): so many bytes of each are written, and none behind them
+-- THE LENT ROOMS ("Refusal numbers"): so many bytes of each are written, and none behind them
 abbrev pub tree_bytes : ℕ
 tree_bytes = 16 * most_nodes
 
@@ -41,18 +41,18 @@ unfoldable pub long_enough : Rooms → Bool
 long_enough R =
     leb tree_bytes (length R.tree) && (leb goals_bytes (length R.goals) && (leb props_bytes (length R.props) && leb work_bytes (length R.work)))
 
-__ WHERE A RUN OF THE TABLE STARTS: in the empty context, with nothing made
+-- WHERE A RUN OF THE TABLE STARTS: in the empty context, with nothing made
 abbrev pub context_of : List ℕ → Ctx
 context_of l = []
 
 abbrev pub start_of : List ℕ → St
 start_of l = start
 
-__ WHAT THE RULES SAY: the root, held to the expected proposition from there
+-- WHAT THE RULES SAY: the root, held to the expected proposition from there
 abbrev pub root_run : List ℕ → Out Answer
 root_run l = run (term_at l 0) (check (prop (prop_at l (expected l)))) (context_of l) (start_of l)
 
-__ WHAT DOCUMENT 01 SAYS of these bytes: the rooms first, then the table's tests, then the rules
+-- WHAT DOCUMENT 01 SAYS of these bytes: the rooms first, then the table's tests, then the rules
 unfoldable pub unless_refused : Verdict → Out Answer → Out Answer
 unless_refused (verdict.Refused r) o = stop (refusal_of r)
 unless_refused verdict.Passes o = o
@@ -63,14 +63,14 @@ table_run l = unless_refused (tests Check l) (root_run l)
 unfoldable pub outcome : List ℕ → Rooms → Out Answer
 outcome l R = cond (long_enough R) (table_run l) (refused 1 0)
 
-__ A REFUSAL leaves zeros, as far as a short room goes
+-- A REFUSAL leaves zeros, as far as a short room goes
 pub record Emptied (R R' : Rooms) : Type 0 where
   pub tree : R'.tree ≡ cleared tree_bytes R.tree
   pub goals : R'.goals ≡ cleared goals_bytes R.goals
   pub props : R'.props ≡ cleared props_bytes R.props
   pub work : R'.work ≡ cleared work_bytes R.work
 
-__ AN ACCEPTANCE leaves the rules' tree with its goals, the table's propositions and the made ones
+-- AN ACCEPTANCE leaves the rules' tree with its goals, the table's propositions and the made ones
 pub record Holds (l : List ℕ) (R : Rooms) (a : Answer) (st : St) : Type 0 where
   pub trees : TreesAre l R (props l + st.made) 0 0 a.tree
   pub table : (n : ℕ) → n < props l → record_at R.props n ≡ loaded_record l n
@@ -78,7 +78,7 @@ pub record Holds (l : List ℕ) (R : Rooms) (a : Answer) (st : St) : Type 0 wher
   pub tree_room : 16 * records a.tree ≤ length R.tree
   pub goals_room : 8 * holes a.tree ≤ length R.goals
 
-__ and, but for the bytes of these, zeros as a refusal does
+-- and, but for the bytes of these, zeros as a refusal does
 pub record Kept (l : List ℕ) (R R' : Rooms) (a : Answer) (st : St) : Type 0 where
   pub holds : Holds l R' a st
   pub tree : cleared (16 * records a.tree) R'.tree ≡ cleared tree_bytes R.tree
@@ -89,7 +89,7 @@ pub record Kept (l : List ℕ) (R R' : Rooms) (a : Answer) (st : St) : Type 0 wh
 abbrev pub counts_of : Answer → St → Counts
 counts_of a st = record { records = records a.tree; goals = holes a.tree; serials = st.serials; made = st.made }
 
-__ THE MARK
+-- THE MARK
 abbrev pub MarkedAs : (l : List ℕ) → (R R' : Rooms) → Out Answer → Mark → Type 0
 MarkedAs l R R' (stop s) m = (m ≡ mark.Refused (told s)) × Emptied R R'
 MarkedAs l R R' (ok a st) m = (m ≡ mark.Accepted (counts_of a st)) × Kept l R R' a st

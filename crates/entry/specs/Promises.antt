@@ -1,4 +1,4 @@
-__ What a tester asks of a mark, as statements about `Marks` alone; proved in proofs/Promises.antt. Assumes nothing.
+-- What a tester asks of a mark, as statements about `Marks` alone; proved in proofs/Promises.antt. Assumes nothing.
 use Rattle.std.specs.Prelude.{◌≡◌, true, List, [], ◌⊎◌, ℕ, zero, suc, ◌<◌, ◌≤◌, length, get_or}
 use Rattle.numbers.specs.declared.record.Record.{Record}
 use Rattle.numbers.specs.Records.{record_at}
@@ -19,7 +19,7 @@ use Rattle.entry.specs.declared.Mark.{Mark}
 use Rattle.entry.specs.declared.Mark.TheVariants as mark
 use Rattle.entry.specs.Mark.{long_enough, root_run, counts_of, Marks}
 
-__ ACCEPTED EXACTLY WHEN THE RULES ACCEPT: the rooms are long enough, the table passes its tests, and the rules check its root
+-- ACCEPTED EXACTLY WHEN THE RULES ACCEPT: the rooms are long enough, the table passes its tests, and the rules check its root
 pub record Accepted (l : List ℕ) (R : Rooms) (c : Counts) : Type 0 where
   pub long : long_enough R ≡ true
   pub good : Good Check l
@@ -34,13 +34,13 @@ OnlyThen = (l : List ℕ) (R R' : Rooms) (c : Counts) → Marks l R R' (mark.Acc
 abbrev pub AlwaysThen : Type 0
 AlwaysThen = (l : List ℕ) (R R' : Rooms) (m : Mark) → Marks l R R' m → (c : Counts) → Accepted l R c → m ≡ mark.Accepted c
 
-__ ACCEPTED WITH NO GOALS, the proposition that the file expects holds in every structure
+-- ACCEPTED WITH NO GOALS, the proposition that the file expects holds in every structure
 abbrev pub AcceptedHolds : Type 1
 AcceptedHolds =
     (l : List ℕ) (R R' : Rooms) (c : Counts) → Marks l R R' (mark.Accepted c) → c.goals ≡ 0
     → (M : Structure) (ρ : Env M) → Holds M ρ [] (prop_at l (expected l))
 
-__ EACH SORRY of the term t IS ONE GOAL, from left to right
+-- EACH SORRY of the term t IS ONE GOAL, from left to right
 pub record Sorries (t : Term) (R' : Rooms) (c : Counts) : Type 0 where
   pub count : c.goals ≡ length (sorries t)
   pub each : (i : ℕ) → i < c.goals → (goal_at R'.goals i).term.0 ≡ get_or (sorries t) i 0
@@ -48,8 +48,8 @@ pub record Sorries (t : Term) (R' : Rooms) (c : Counts) : Type 0 where
 abbrev pub GoalsAreSorries : Type 0
 GoalsAreSorries = (l : List ℕ) (R R' : Rooms) (c : Counts) → Marks l R R' (mark.Accepted c) → Sorries (term_at l 0) R' c
 
-__ TWO RUNS ON THE SAME BYTES AGREE, whatever the rooms held. Under tag 0 two numbers stand for propositions: they read alike, each in its own room ps
-__ or qs, and are equal unless both are of made ones. Under another tag they are datatypes, and are equal
+-- TWO RUNS ON THE SAME BYTES AGREE, whatever the rooms held. Under tag 0 two numbers stand for propositions: they read alike, each in its own room ps
+-- or qs, and are equal unless both are of made ones. Under another tag they are datatypes, and are equal
 abbrev pub Agree : (l ps qs : List ℕ) → (tag m n : ℕ) → Type 0
 Agree l ps qs zero m n = (room_at (props l) ps m ≡ room_at (props l) qs n) × ((m ≡ n) ⊎ ((props l ≤ m) × (props l ≤ n)))
 Agree l ps qs (suc t) m n = m ≡ n
@@ -62,7 +62,7 @@ pub record AgreeNode (l ps qs : List ℕ) (r s : Record) : Type 0 where
   pub first : r.c ≡ s.c
   pub others : r.parameters ≡ s.parameters
 
-__ a goal's record has no tag, so this says only that its numbers agree under one. Its leaf's record has the same number (`Marks`), and there the tag stands
+-- a goal's record has no tag, so this says only that its numbers agree under one. Its leaf's record has the same number (`Marks`), and there the tag stands
 pub record AgreeGoal (l ps qs : List ℕ) (g h : Goal) : Type 0 where
   pub term : g.term ≡ h.term
   pub tag : ℕ

@@ -1,4 +1,4 @@
-__ The rooms after a run, before they are cleaned. Assumes nothing.
+-- The rooms after a run, before they are cleaned. Assumes nothing.
 use Rattle.std.specs.Prelude.{◌≡◌, List, ℕ, length}
 use Rattle.rules.specs.Tree.{records, holes}
 use Rattle.rules.specs.Step.{Out, ok, Answer}
@@ -9,14 +9,14 @@ use Rattle.step.specs.Rooms.{Rooms, st_of}
 use Rattle.step.specs.Contract.{Refuses}
 use Rattle.entry.specs.Mark.{tree_bytes, goals_bytes, props_bytes, work_bytes, Holds}
 
-__ rooms of just the listed sizes
+-- rooms of just the listed sizes
 pub record Exact (R : Rooms) : Type 0 where
   pub tree : length R.tree ≡ tree_bytes
   pub goals : length R.goals ≡ goals_bytes
   pub props : length R.props ≡ props_bytes
   pub work : length R.work ≡ work_bytes
 
-__ a run of the rules that came to o: it accepts, and R holds its tree
+-- a run of the rules that came to o: it accepts, and R holds its tree
 pub record Ran (l : List ℕ) (o : Out Answer) (R : Rooms) (st : State) : Type 0 where
   pub answer : Answer
   pub accepts : o ≡ ok answer (st_of st)

@@ -1,4 +1,4 @@
-__ The statements of specs/Promises.antt: an answer that is right is the only one. Assumes nothing.
+-- The statements of specs/Promises.antt: an answer that is right is the only one. Assumes nothing.
 use mathlib.Core.Path.{◌≡◌, ap, sym, subst, ◌∙◌}
 use mathlib.Core.Bool.{Bool, true}
 use mathlib.Core.List.{List}

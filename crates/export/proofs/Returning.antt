@@ -1,4 +1,4 @@
-__ What a call returns, with an answer room that is too short and with one that is not. Assumes nothing.
+-- What a call returns, with an answer room that is too short and with one that is not. Assumes nothing.
 use mathlib.Core.Path.{◌≡◌, refl, subst, subst⁻¹}
 use mathlib.Core.Bool.{Bool}
 use mathlib.Core.List.{List}

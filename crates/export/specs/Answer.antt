@@ -1,4 +1,4 @@
-__ What a caller in C gets: an answer, written as one record of the answer room. Assumes nothing.
+-- What a caller in C gets: an answer, written as one record of the answer room. Assumes nothing.
 use Rattle.std.specs.Prelude.{◌≡◌, Bool, true, false, List, [], ◌∷◌, ℕ, length, leb}
 use Rattle.numbers.specs.declared.record.Record.{Record}
 use Rattle.numbers.specs.declared.refusal.Refusal.{Refusal}
@@ -18,22 +18,22 @@ use Rattle.filling.specs.declared.answer.Filled.{Filled}
 use Rattle.filling.specs.declared.answer.Filled.TheVariants as filled
 use Rattle.filling.specs.Fill.{Lent, Fills}
 
-__ THE ANSWER ROOM: one record is written, and nothing behind it
+-- THE ANSWER ROOM: one record is written, and nothing behind it
 abbrev pub answer_bytes : ℕ
 answer_bytes = 16
 
-__ WHAT A CALL RETURNS
+-- WHAT A CALL RETURNS
 abbrev pub answered : ℕ
 answered = 0
 
 abbrev pub no_room : ℕ
 no_room = 1
 
-__ THE RECORD. An acceptance: zeros, and at its end the counts of records, goals, serials and propositions made
+-- THE RECORD. An acceptance: zeros, and at its end the counts of records, goals, serials and propositions made
 unfoldable pub accepted_record : Counts → Record
 accepted_record n = record { kind = 0; count = 0; a = 0; b = 0; c = 0; parameters = n.records ∷ n.goals ∷ n.serials ∷ n.made ∷ [] }
 
-__ a refusal: 1, its number, its place, and the table that the place is in
+-- a refusal: 1, its number, its place, and the table that the place is in
 unfoldable pub refused_record : Refusal → ℕ → Record
 refused_record r t = record { kind = 1; count = r.number; a = r.place; b = t; c = 0; parameters = 0 ∷ 0 ∷ 0 ∷ 0 ∷ [] }
 
@@ -57,13 +57,13 @@ unfoldable pub filled_record : Filled → Record
 filled_record (filled.Accepted n) = accepted_record n
 filled_record (filled.Refused r w) = refused_record r (table_number w)
 
-__ A RIGHT ANSWER stands as a record in the answer room, which is a before and a' after
+-- A RIGHT ANSWER stands as a record in the answer room, which is a before and a' after
 pub record Written (A : Type 0) (Right : A → Type 0) (form : A → Record) (a a' : List ℕ) : Type 0 where
   pub answer : A
   pub right : Right answer
   pub written : Put a 0 (form answer) a'
 
-__ A CALL: with an answer room that is too short nothing is done, and the lent rooms are the same as before
+-- A CALL: with an answer room that is too short nothing is done, and the lent rooms are the same as before
 abbrev pub ReturnsAs : Bool → (A : Type 0) → (A → Type 0) → (A → Record) → Type 0 → (a a' : List ℕ) → ℕ → Type 0
 ReturnsAs true A Right form Same a a' r = (r ≡ answered) × Written A Right form a a'
 ReturnsAs false A Right form Same a a' r = (r ≡ no_room) × (a' ≡ a) × Same
@@ -71,7 +71,7 @@ ReturnsAs false A Right form Same a a' r = (r ≡ no_room) × (a' ≡ a) × Same
 abbrev pub Returns : (A : Type 0) → (A → Type 0) → (A → Record) → Type 0 → (a a' : List ℕ) → ℕ → Type 0
 Returns A Right form Same a a' r = ReturnsAs (leb answer_bytes (length a)) A Right form Same a a' r
 
-__ THE CALLS
+-- THE CALLS
 abbrev pub TestReturns : Purpose → (l work left a a' : List ℕ) → ℕ → Type 0
 TestReturns p l work left a a' r = Returns Verdict (Tested p l work left) verdict_record (left ≡ work) a a' r
 

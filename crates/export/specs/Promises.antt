@@ -1,4 +1,4 @@
-__ Two calls from C on the same bytes: what they return and what they write, whatever the rooms held; proved in proofs/Promises.antt. Assumes nothing.
+-- Two calls from C on the same bytes: what they return and what they write, whatever the rooms held; proved in proofs/Promises.antt. Assumes nothing.
 use Rattle.std.specs.Prelude.{◌≡◌, true, List, ℕ, length, leb}
 use Rattle.numbers.specs.Records.{record_at}
 use Rattle.table.specs.declared.Purpose.{Purpose}
@@ -8,16 +8,16 @@ use Rattle.entry.specs.Mark.{long_enough}
 use Rattle.filling.specs.Fill.{Lent, all_long}
 use Rattle.export.specs.Answer.{answer_bytes, TestReturns, CheckReturns, FillReturns}
 
-__ an answer room that is long enough
+-- an answer room that is long enough
 abbrev pub takes_answer : List ℕ → Type 0
 takes_answer a = leb answer_bytes (length a) ≡ true
 
-__ both return r, and an answer that is written is the same record
+-- both return r, and an answer that is written is the same record
 pub record SameCall (a' b' : List ℕ) (r s : ℕ) : Type 0 where
   pub returns : r ≡ s
   pub answer : record_at a' 0 ≡ record_at b' 0
 
-__ with answer rooms a and b before, a' and b' after, both long enough; and lent rooms that are long enough for both calls, or for neither
+-- with answer rooms a and b before, a' and b' after, both long enough; and lent rooms that are long enough for both calls, or for neither
 abbrev pub TestsAgree : Type 0
 TestsAgree =
     (p : Purpose) (l w w' v v' a a' b b' : List ℕ) (r s : ℕ) → TestReturns p l w w' a a' r → TestReturns p l v v' b b' s → takes_answer a → takes_answer b

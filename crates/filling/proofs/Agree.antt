@@ -1,5 +1,5 @@
-__ Demand 3 about bytes: the edited table's tests are those of a fresh check, its root is the old one with the filling in the gap, and the rest is demand 3 of the rules.
-__ Assumes nothing.
+-- Demand 3 about bytes: the edited table's tests are those of a fresh check, its root is the old one with the filling in the gap, and the rest is demand 3 of the rules.
+-- Assumes nothing.
 use mathlib.Core.Path.{◌≡◌, refl, ap, ap₂, subst, subst⁻¹, ◌∙◌}
 use mathlib.Core.Bool.{Bool, true, false, cond}
 use mathlib.Core.Logic.{◌⊎◌, inl, inr}
@@ -27,7 +27,7 @@ use Rattle.table.proofs.Links.{expected_in}
 use Rattle.table.proofs.Passing.{good_passed}
 use Rattle.table.proofs.Fills.{table_fills}
 use Rattle.editing.specs.Edited.{Fillable, Edited}
-use Rattle.editing.proofs.Edits.{goal_fillable, whole_prop, filled-term, filling-place, edited-verdict}
+use Rattle.editing.proofs.Edits.{goal_fillable, whole_prop, filled_term, filling_place, edited_verdict}
 use Rattle.editing.proofs.Joins.{expected_joined}
 use Rattle.step.specs.Rooms.{Rooms}
 use Rattle.entry.specs.declared.Counts.{Counts}
@@ -40,7 +40,7 @@ use Rattle.filling.specs.declared.answer.Filled.TheVariants as fill
 use Rattle.filling.specs.Fill.{Lent, all_long, Accepts, counts_from, RunAs, EditedAs, Goal, GoalAs, FillingAs, OldAs, RoomsAs, Fills}
 use Rattle.filling.specs.Agree.{own, joint, Outgrown, Grafted, Agrees, FirstCheck, Demand3Bytes}
 
-__ THE COUNTS of a tree with us in a gap's place: one gap less, and those of us
+-- THE COUNTS of a tree with us in a gap's place: one gap less, and those of us
 records_move : (f : ℕ → ℕ) (d : St) (ts : Trees) → records (move f d ts) ≡ records ts
 unfolding records move
 records_move f d end = refl
@@ -75,22 +75,22 @@ counts_joint g a b p st st₂ d =
     let h : holes (graft p b.tree (lift g d) d) ≡ holes a.tree + holes b.tree - 1 = omega (arith, holes_graft b.tree (lift g d) d p) in
     λ i. record { records = r i; goals = h i; serials = st.serials + d.serials; made = st.made + d.made }
 
-__ what the filling made is what its run added to the hole's counts
+-- what the filling made is what its run added to the hole's counts
 own_made : (g : Gap) (b : Answer) (st d : St) → st ≡ later d g.state → own g (counts_from g b st) ≡ d
 own_made g b st d e =
     let s : st.serials - g.state.serials ≡ d.serials = omega (arith, ap (λ (x : St). x.serials) e) in
     let m : st.made - g.state.made ≡ d.made = omega (arith, ap (λ (x : St). x.made) e) in
     λ i. record { serials = s i; made = m i }
 
-__ THE EDITED TABLE'S ROOT is the old one with the filling in the gap's place, held to the same proposition
+-- THE EDITED TABLE'S ROOT is the old one with the filling in the gap's place, held to the same proposition
 root_edited : {old f : List ℕ} {q : ℕ} (h : Fillable old f q) {e : List ℕ} → Edited old f q e
     → root_run e ≡ run (plug q (term_at e q) (term_at old 0)) (check (prop (prop_at old (expected old)))) (context_of old) (start_of old)
 root_edited {old = old} h {e} E =
     let o = good_passed h.old_good in
-    ap₂ (λ (t : Term) (P : Prop). run t (check (prop P)) (context_of old) (start_of old)) (filled-term h E 0 o.counted.some)
+    ap₂ (λ (t : Term) (P : Prop). run t (check (prop P)) (context_of old) (start_of old)) (filled_term h E 0 o.counted.some)
     (ap (prop_at e) (expected_joined E) ∙ whole_prop h E (expected old) (expected_in o.linked))
 
-__ THE FRESH CHECK
+-- THE FRESH CHECK
 module _ {S S' : Lent} {l f : List ℕ} {k : ℕ} {a : Answer} {r : Filled} (z : Goal S S' l f k a r) (st : St) (R R' : Rooms) (m : Mark) where
   abbrev AgreesWith : Filled → Type 0
   AgreesWith = Agrees z st R R' m
@@ -110,7 +110,7 @@ module _ {S S' : Lent} {l f : List ℕ} {k : ℕ} {a : Answer} {r : Filled} (z :
   abbrev Alone : Answer → St → Filled → Type 0
   Alone = Accepts S S' z.table z.goal
 
-  __ after an accepted filling, which made d
+  -- after an accepted filling, which made d
   module _ (b : Answer) (st₂ d : St) (ran : own_run ≡ ok b st₂) (y : Alone b st₂ r) (e : st₂ ≡ later d z.goal.state) where
     abbrev c : Counts
     c = counts_from z.goal b st₂
@@ -136,14 +136,14 @@ module _ {S S' : Lent} {l f : List ℕ} {k : ℕ} {a : Answer} {r : Filled} (z :
     limited o w (inl (fits, v)) = inr (grafted (subst Marked v w) fits)
     limited o w (inr (over, v)) = inl (outgrown o w over v)
 
-    agrees-accepted : (o : Out Answer) → Marked o → Limited Behind (whole b.tree d) (later d st) o → AgreesWith r
-    agrees-accepted o w v =
+    agrees_accepted : (o : Out Answer) → Marked o → Limited Behind (whole b.tree d) (later d st) o → AgreesWith r
+    agrees_accepted o w v =
         subst⁻¹ AgreesWith y.answer (subst⁻¹ (λ (d : St). Outgrown z st R R' m d ⊎ Grafted z st R R' m c d) (own_made z.goal b st₂ d e) (limited o w v))
 
-  __ whatever the filling's run says
+  -- whatever the filling's run says
   agrees_run : (v o : Out Answer) → own_run ≡ v → RunAs S S' z.table z.goal r v → Marked o → Follows Behind z.goal whole st o v → AgreesWith r
   agrees_run (stop s) o ran y w v = let x = subst Marked v w in subst⁻¹ AgreesWith y.answer (refl, x.0, x.1)
-  agrees_run (ok b st₂) o ran y w (d, e, v) = agrees-accepted b st₂ d ran y e o w v
+  agrees_run (ok b st₂) o ran y w (d, e, v) = agrees_accepted b st₂ d ran y e o w v
 
   module _ (good : Good Check l) (fills : Good Filling f) (accepted : root_run l ≡ ok a st) where
     fillable : Fillable l f z.goal.term
@@ -152,21 +152,21 @@ module _ {S S' : Lent} {l f : List ℕ} {k : ℕ} {a : Answer} {r : Filled} (z :
     follows : Follows Behind z.goal whole st (root_run z.table) own_run
     follows =
         subst⁻¹ (λ (o : Out Answer). Follows Behind z.goal whole st o own_run) (root_edited fillable z.edited)
-        (table_fills l good a st accepted (term_at z.table z.goal.term) z.goal z.stands (filling-place fillable z.edited))
+        (table_fills l good a st accepted (term_at z.table z.goal.term) z.goal z.stands (filling_place fillable z.edited))
 
-    __ whatever the edited table's tests say
-    agrees-tests : (v : Verdict) → EditedAs S S' z.table z.goal r v → Marked (unless_refused v (root_run z.table)) → AgreesWith r
+    -- whatever the edited table's tests say
+    agrees_tests : (v : Verdict) → EditedAs S S' z.table z.goal r v → Marked (unless_refused v (root_run z.table)) → AgreesWith r
     unfolding unless_refused
-    agrees-tests (verdict.Refused u) y w = subst⁻¹ AgreesWith y.answer (refl, w.0, w.1)
-    agrees-tests verdict.Passes y w = agrees_run own_run (root_run z.table) refl y w follows
+    agrees_tests (verdict.Refused u) y w = subst⁻¹ AgreesWith y.answer (refl, w.0, w.1)
+    agrees_tests verdict.Passes y w = agrees_run own_run (root_run z.table) refl y w follows
 
     agrees : long_enough R ≡ true → Marks z.table R R' m → AgreesWith r
     unfolding outcome
     agrees long w =
-        agrees-tests (tests Check z.table) (subst (EditedAs S S' z.table z.goal r) (edited-verdict fillable z.edited) z.answer)
+        agrees_tests (tests Check z.table) (subst (EditedAs S S' z.table z.goal r) (edited_verdict fillable z.edited) z.answer)
         (subst (λ (b : Bool). Marked (cond b (table_run z.table) (refused 1 0))) long w)
 
-__ THE FIRST TWO CALLS
+-- THE FIRST TWO CALLS
 accepted_mark : (l : List ℕ) (Q Q' : Rooms) (c : Counts) → Marks l Q Q' (mark.Accepted c) → FirstCheck l Q Q' c
 unfolding outcome
 accepted_mark l Q Q' c w = at (long_enough Q) (table_run l) refl w
@@ -184,7 +184,7 @@ filled_goal l f k S S' r a st w long e good inside =
     let goal = subst (FillingAs S S' l f k a r) good filling in
     subst (GoalAs S S' l f k a r) (lt-ltb k (holes a.tree) inside) goal
 
-__ DEMAND 3
+-- DEMAND 3
 pub demand_3_bytes : Demand3Bytes
 demand_3_bytes l f k Q Q' c S S' r w v inside fills long =
     let x = accepted_mark l Q Q' c w in

@@ -1,4 +1,4 @@
-__ After the filling's run: the answer, and rooms that are clean. Assumes nothing.
+-- After the filling's run: the answer, and rooms that are clean. Assumes nothing.
 use mathlib.Core.Path.{◌≡◌, ap, ap₂, sym, subst, subst⁻¹, ◌∙◌}
 use mathlib.Core.List.{List}
 use Prim.Native.Nat.{ℕ, ◌-◌, ◌*◌, ◌<◌, ◌≤◌}
@@ -26,7 +26,7 @@ use Rattle.filling.specs.declared.answer.Filled.TheVariants as filled
 use Rattle.filling.specs.Fill.{Lent, Refuses, RunAs}
 use Rattle.filling.specs.Steps.{Fitting}
 
-__ WHAT THE CLEANING ASKS FOR
+-- WHAT THE CLEANING ASKS FOR
 module _ (e : List ℕ) (size serials : ℕ) (R : Rooms) (r : Outcome) (T : Sort) (st : State) (is : r ≡ ran.Has T st) (fits : Fitting e size serials R r) where
   pub within : (16 ≤ size) × (count_of e st ≤ most_records) × (16 * st.records ≤ tree_bytes) × (8 * st.goals ≤ goals_bytes) × (serials ≤ st.serials)
   within = subst (Fitting e size serials R) is fits
@@ -41,7 +41,7 @@ module _ (e : List ℕ) (size serials : ℕ) (R : Rooms) (r : Outcome) (T : Sort
       let pl = x.props in
       ((within.2, omega arith), ((within.3, omega arith), (omega arith, omega arith)))
 
-__ the table is kept when the room behind it is cleared
+-- the table is kept when the room behind it is cleared
 table_kept : (size n : ℕ) (old new : List ℕ) → size ≤ length old → Trimmed size n old new → take size new ≡ take size old
 table_kept size n old new h t =
     let a = length-take-le size old h in

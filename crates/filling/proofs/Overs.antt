@@ -1,5 +1,5 @@
-__ An answer in some rooms is the answer in others: in rooms of just the listed sizes, whatever they held before; and in rooms of any length, of which these are
-__ the first bytes. Assumes nothing.
+-- An answer in some rooms is the answer in others: in rooms of just the listed sizes, whatever they held before; and in rooms of any length, of which these are
+-- the first bytes. Assumes nothing.
 use mathlib.Core.Path.{◌≡◌, ap, sym, subst, subst⁻¹, ◌∙◌}
 use mathlib.Core.Bool.{Bool, true, false, ◌&&◌}
 use mathlib.Core.List.{List, [], ◌++◌}
@@ -32,12 +32,12 @@ use Rattle.filling.specs.declared.answer.Filled.{Filled}
 use Rattle.filling.specs.Fill.{Lent, lent, all_long, Refuses, Accepts, RunAs, EditedAs, Goal, GoalAs, FillingAs, OldAs, RoomsAs, Fills}
 use Rattle.filling.specs.Steps.{ExactAll}
 
-__ REFUSALS AND ACCEPTANCES CARRY OVER from the rooms S to the rooms T
+-- REFUSALS AND ACCEPTANCES CARRY OVER from the rooms S to the rooms T
 pub record Carries (S S' T T' : Lent) : Type 0 where
   pub refuses : {e : Refusal} {w : Which} {r : Filled} → Refuses S S' e w r → Refuses T T' e w r
   pub accepts : {e : List ℕ} {g : Gap} {b : Answer} {st : St} {r : Filled} → Accepts S S' e g b st r → Accepts T T' e g b st r
 
-__ then so does every stage
+-- then so does every stage
 module _ {S S' T T' : Lent} (c : Carries S S' T T') where
   pub run_on : (e : List ℕ) (g : Gap) (r : Filled) (o : Out Answer) → RunAs S S' e g r o → RunAs T T' e g r o
   run_on e g r (stop s) z = c.refuses z
@@ -71,7 +71,7 @@ module _ {S S' T T' : Lent} (c : Carries S S' T T') where
   old_on l f k r (stop s) z = c.refuses z
   old_on l f k r (ok a st) z = filling_on l f k a r (tests purpose.Filling f) z
 
-__ ROOMS OF JUST THE LISTED SIZES
+-- ROOMS OF JUST THE LISTED SIZES
 pub carries_over : (S S₁ S' : Lent) → ExactAll S → ExactAll S₁ → Carries S₁ S' S S'
 carries_over S S₁ S' x y =
     let same = cleared_exact edited_bytes S.edited S₁.edited x.edited y.edited in
@@ -80,7 +80,7 @@ carries_over S S₁ S' x y =
       accepts = λ z. record { answer = z.answer; rooms = marks.kept_over x.rooms y.rooms z.rooms; table = z.table; rest = z.rest ∙ same };
     }
 
-__ ROOMS OF ANY LENGTH
+-- ROOMS OF ANY LENGTH
 abbrev pub firsts : Lent → Lent
 firsts S = record { rooms = marks.firsts S.rooms; edited = take edited_bytes S.edited }
 
@@ -125,7 +125,7 @@ module _ (S : Lent) (long : all_long S ≡ true) where
 pub fills_short : (S S' : Lent) (l f : List ℕ) (k : ℕ) (r : Filled) (u : Refusal) → all_long S ≡ false → u ≡ refusal_at 1 0 → Refuses S S' u Old r → Fills S S' l f k r
 fills_short S S' l f k r u short e z = subst⁻¹ (RoomsAs S S' l f k r) short (subst (λ (u : Refusal). Refuses S S' u Old r) e z)
 
-__ what the code's test of the rooms says
+-- what the code's test of the rooms says
 module _ (tree goals ps work edited : List ℕ) (b : Bool) (is : b ≡ long_enough (rooms tree goals ps work)) where
   test_is : b && leb edited_bytes (length edited) ≡ all_long (lent tree goals ps work edited)
   unfolding all_long

@@ -1,4 +1,4 @@
-__ The first bytes of a room, written by a call that was lent them. Assumes nothing.
+-- The first bytes of a room, written by a call that was lent them. Assumes nothing.
 use mathlib.Core.Path.{◌≡◌, ap, ◌∙◌}
 use mathlib.Core.List.{List, [], ◌∷◌, ◌++◌}
 use Prim.Native.Nat.{ℕ, zero, suc, ◌≤◌}
@@ -17,11 +17,11 @@ module _ (size : ℕ) (old part : List ℕ) (fit : size ≤ length old) (same : 
   pub part_is : take size (part ++ drop size old) ≡ part
   part_is = take_at part (drop size old) size (same ∙ length-take-le size old fit)
 
-__ unchanged
+-- unchanged
 pub room_same : (size : ℕ) (old part : List ℕ) → part ≡ take size old → part ++ drop size old ≡ old
 room_same size old part e = ap (λ (t : List ℕ). t ++ drop size old) e ∙ take-append-drop size old
 
-__ bytes still
+-- bytes still
 pub bytes_take : (n : ℕ) (l : List ℕ) → Bytes l → Bytes (take n l)
 bytes_take zero l h i = omega arith
 bytes_take (suc n) [] h i = omega arith

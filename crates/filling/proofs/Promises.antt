@@ -1,4 +1,4 @@
-__ The statements of specs/Promises.antt, from `Fills`. Assumes nothing.
+-- The statements of specs/Promises.antt, from `Fills`. Assumes nothing.
 use mathlib.Core.Path.{◌≡◌, refl, ap, sym, subst, subst⁻¹, ◌∙◌}
 use mathlib.Core.Bool.{Bool, true, false}
 use mathlib.Core.Logic.{◌⊎◌, inl, inr}
@@ -25,7 +25,7 @@ use Rattle.table.specs.Reading.{term_at}
 use Rattle.table.proofs.Passing.{good_passed}
 use Rattle.editing.specs.Edited.{edited_size, Fillable, Edited, edited_tests}
 use Rattle.editing.specs.Renumbered.{StandsFor}
-use Rattle.editing.proofs.Edits.{goal_fillable, edited-good}
+use Rattle.editing.proofs.Edits.{goal_fillable, edited_good}
 use Rattle.editing.proofs.Alike.{edited_unique}
 use Rattle.editing.proofs.Renumbered.{edited_stands_for}
 use Rattle.step.specs.Contract.{told}
@@ -42,7 +42,7 @@ use Rattle.filling.specs.declared.answer.Filled.TheVariants as filled
 use Rattle.filling.specs.Fill.{Lent, all_long, Refuses, counts_from, RunAs, EditedAs, Goal, GoalAs, FillingAs, OldAs, RoomsAs}
 use Rattle.filling.specs.Promises.{left_table, sorry_of, LeftEdited, LeavesEdited, FilledSorries, SameIfFilled, TwoFillingsAgree}
 
-__ THE FIRST FOUR STAGES do not look at what the rooms hold. They refuse every filling of goal k with f alike, or find that goal in the old run
+-- THE FIRST FOUR STAGES do not look at what the rooms hold. They refuse every filling of goal k with f alike, or find that goal in the old run
 abbrev Stage : Type 1
 Stage = Lent → Lent → Filled → Type 0
 
@@ -79,11 +79,11 @@ module _ (l f : List ℕ) (k : ℕ) where
   by_rooms false = inl record { refusal = refusal_at 1 0; in_table = which.Old; so = λ S S' r x. x }
   by_rooms true = by_old (table_run l) refl
 
-__ THE TABLE e that an acceptance leaves
+-- THE TABLE e that an acceptance leaves
 table_left : (l f e : List ℕ) (S : Lent) → length e ≡ edited_size l f → take (length e) S.edited ≡ e → left_table l f S ≡ e
 table_left l f e S size h = ap (λ (n : ℕ). take n S.edited) (sym size) ∙ h
 
-__ AN ACCEPTED FILLING
+-- AN ACCEPTED FILLING
 abbrev goals_in : Counts → Filled → ℕ
 goals_in d (filled.Accepted c) = c.goals
 goals_in d (filled.Refused u w) = d.goals
@@ -115,8 +115,8 @@ module _ (l f : List ℕ) (k : ℕ) (S S' : Lent) (c : Counts) where
         let order = ap length (goals_in_order (term_at l 0) _ _ _ a st run) in
         omega (arith, few_goals z.stands, z.number, holes_goals a.tree, length-map (goals a.tree) (λ (g : Gap). g.term), order)
 
-    sorry-is : z.goal.term ≡ sorry_of l k
-    sorry-is =
+    sorry_is : z.goal.term ≡ sorry_of l k
+    sorry_is =
         sym (gap_term z.stands)
         ∙ ap (λ (ts : List ℕ). get_or ts (length (before z.stands)) 0) (goals_in_order (term_at l 0) _ _ _ a st run)
         ∙ ap (λ (n : ℕ). get_or (sorries (term_at l 0)) n 0) z.number
@@ -128,24 +128,24 @@ module _ (l f : List ℕ) (k : ℕ) (S S' : Lent) (c : Counts) where
         record {
           there = there;
           bytes = z.bytes;
-          edited = subst (λ (q : ℕ). Edited l f q z.table) sorry-is z.edited;
-          good = edited-good h z.edited y.0;
-          means = subst (λ (q : ℕ). StandsFor l f q z.table) sorry-is (edited_stands_for l f z.goal.term z.table h z.edited);
+          edited = subst (λ (q : ℕ). Edited l f q z.table) sorry_is z.edited;
+          good = edited_good h z.edited y.0;
+          means = subst (λ (q : ℕ). StandsFor l f q z.table) sorry_is (edited_stands_for l f z.goal.term z.table h z.edited);
         }
 
-    sorries-left : Sorries (term_at (left_table l f S') (sorry_of l k)) S'.rooms c
-    sorries-left =
+    sorries_left : Sorries (term_at (left_table l f S') (sorry_of l k)) S'.rooms c
+    sorries_left =
         let y = kept z.table z.goal (edited_tests z.table) z.answer in
         let e = table_left l f z.table S' z.edited.size y.1 in
         subst⁻¹ (λ (e : List ℕ). Sorries (term_at e (sorry_of l k)) S'.rooms c) e
-        (subst (λ (q : ℕ). Sorries (term_at z.table q) S'.rooms c) sorry-is (sorries_edit z.table z.goal (edited_tests z.table) z.answer))
+        (subst (λ (q : ℕ). Sorries (term_at z.table q) S'.rooms c) sorry_is (sorries_edit z.table z.goal (edited_tests z.table) z.answer))
 
 pub filled_sorries : FilledSorries
 filled_sorries l f k S S' c x = at (by_rooms l f k (all_long S))
   where
     at : Alike l f k (λ T T' r. RoomsAs T T' l f k r (all_long S)) → Sorries (term_at (left_table l f S') (sorry_of l k)) S'.rooms c
     at (inl y) = not_refused l f k S S' c (y.so S S' (filled.Accepted c) x)
-    at (inr y) = sorries-left l f k S S' c y.answer y.state y.run (y.so S S' (filled.Accepted c) x)
+    at (inr y) = sorries_left l f k S S' c y.answer y.state y.run (y.so S S' (filled.Accepted c) x)
 
 pub leaves_edited : LeavesEdited
 leaves_edited l f k S S' c x = at (by_rooms l f k (all_long S))
@@ -156,7 +156,7 @@ leaves_edited l f k S S' c x = at (by_rooms l f k (all_long S))
         let z = y.so S S' (filled.Accepted c) x in
         left l f k S S' c y.answer y.state y.run z (goal_fillable l f y.old_good y.good y.answer y.state y.run z.goal z.stands)
 
-__ TWO FILLINGS, each stage on one finding of both
+-- TWO FILLINGS, each stage on one finding of both
 module _ (l f : List ℕ) (k : ℕ) (S S' Z Z' : Lent) (r s : Filled) where
   abbrev Same : Type 0
   Same = (r ≡ s) × SameIfFilled l f S' Z' r
@@ -164,11 +164,11 @@ module _ (l f : List ℕ) (k : ℕ) (S S' Z Z' : Lent) (r s : Filled) where
   both_refuse : {u : Refusal} {w : Which} → Refuses S S' u w r → Refuses Z Z' u w s → Same
   both_refuse x y = (x.answer ∙ sym y.answer, subst⁻¹ (SameIfFilled l f S' Z') x.answer tt)
 
-  __ with one edited table and one goal
+  -- with one edited table and one goal
   module _ (e : List ℕ) (size : length e ≡ edited_size l f) (g : Gap) where
-    same-run : (o : Out Answer) → RunAs S S' e g r o → RunAs Z Z' e g s o → Same
-    same-run (stop q) x y = both_refuse x y
-    same-run (ok b st) x y =
+    same_run : (o : Out Answer) → RunAs S S' e g r o → RunAs Z Z' e g s o → Same
+    same_run (stop q) x y = both_refuse x y
+    same_run (ok b st) x y =
         let c = counts_from g b st in
         let a = table_left l f e S' size x.table in (
           x.answer ∙ sym y.answer,
@@ -179,17 +179,17 @@ module _ (l f : List ℕ) (k : ℕ) (S S' Z Z' : Lent) (r s : Filled) where
               },
         )
 
-    same-edit : (v : Verdict) → EditedAs S S' e g r v → EditedAs Z Z' e g s v → Same
-    same-edit (verdict.Refused u) x y = both_refuse x y
-    same-edit verdict.Passes x y = same-run (at_goal (term_at e g.term) g) x y
+    same_edit : (v : Verdict) → EditedAs S S' e g r v → EditedAs Z Z' e g s v → Same
+    same_edit (verdict.Refused u) x y = both_refuse x y
+    same_edit verdict.Passes x y = same_run (at_goal (term_at e g.term) g) x y
 
-  __ the goals and the edited tables are one
+  -- the goals and the edited tables are one
   same_goal : (a : Answer) (x : Goal S S' l f k a r) → Goal Z Z' l f k a s → Fillable l f x.goal.term → Same
   same_goal a x y h =
       let g : y.goal ≡ x.goal = goal_unique y.stands x.stands (y.number ∙ sym x.number) in
       let e : y.table ≡ x.table =
       edited_unique h.inside (good_passed h.good).counted.some (subst (λ (g : Gap). Edited l f g.term y.table) g y.edited) x.edited y.bytes x.bytes in
-      same-edit x.table x.edited.size x.goal (edited_tests x.table) x.answer
+      same_edit x.table x.edited.size x.goal (edited_tests x.table) x.answer
       (subst (λ (e : List ℕ). EditedAs Z Z' e x.goal s (edited_tests e)) e (subst (λ (g : Gap). EditedAs Z Z' y.table g s (edited_tests y.table)) g y.answer))
 
 pub two_fillings_agree : TwoFillingsAgree

@@ -1,4 +1,4 @@
-__ The old terms run over the edited table's propositions as they ran over their own, and the goal that is asked for has its picture. Assumes nothing.
+-- The old terms run over the edited table's propositions as they ran over their own, and the goal that is asked for has its picture. Assumes nothing.
 use mathlib.Core.Path.{◌≡◌, ap, ap₂, sym, subst, subst⁻¹, ◌∙◌}
 use mathlib.Core.Bool.{false≢true}
 use mathlib.Core.List.{List}
@@ -25,7 +25,7 @@ use Rattle.table.proofs.Links.{expected_in}
 use Rattle.table.proofs.Passing.{Passed, good_passed}
 use Rattle.editing.specs.Edited.{term_bytes, Bytes, Fillable, Joined, Edited}
 use Rattle.editing.proofs.Joins.{props_joined, terms_joined, expected_joined}
-use Rattle.editing.proofs.Edits.{stays, replaces, whole_prop, whole-counted, whole-formed, whole-directed, waiting_term, edited-in-order}
+use Rattle.editing.proofs.Edits.{stays, replaces, whole_prop, whole_counted, whole_formed, whole_directed, waiting_term, edited_in_order}
 use Rattle.editing.proofs.Alike.{joined_counts, joined_props, edited_unique, hole_nodes}
 use Rattle.editing.proofs.Rows.{joined_inside, joined_put}
 use Rattle.prop.specs.Room.{room_at, Arena}
@@ -49,25 +49,25 @@ use Rattle.entry.specs.Ran.{Exact}
 use Rattle.filling.specs.Steps.{GoalOf, ReachedFor}
 use Rattle.entry.proofs.Answers.{is_ok, same_answer}
 
-__ ONE GOAL has each number
+-- ONE GOAL has each number
 pub goal_same : {l : List ℕ} {k : ℕ} {g g' : Gap} → GoalOf l k g → GoalOf l k g' → g ≡ g'
 goal_same {l} {k} {g} {g'} a b =
     let z = subst (λ (x : Answer). (p : At g' x.tree) × (length (before p) ≡ k)) (same_answer b.accepts a.accepts) (b.stands, b.number) in
     goal_unique a.stands z.0 (a.number ∙ sym z.1)
 
 module _ {l f : List ℕ} {q : ℕ} {e : List ℕ} (h : Fillable l f q) (E : Edited l f q e) (counted : Counted e) where
-  __ THE EDITED TABLE may be loaded
+  -- THE EDITED TABLE may be loaded
   pub loadable : Counted e × (Formed e × WellLinked e)
-  loadable = (counted, (whole-formed h E (replaces h), record { purpose = Check; linked = edited-in-order h E }))
+  loadable = (counted, (whole_formed h E (replaces h), record { purpose = Check; linked = edited_in_order h E }))
 
-  __ its term q may be read and written, and so may the old table's
+  -- its term q may be read and written, and so may the old table's
   pub term_inside : 16 * (props e + q + 1) + 16 ≤ length e
   term_inside = joined_inside E h.inside (good_passed h.good).counted.some
 
   pub old_inside : 16 * (props l + q + 1) + 16 ≤ length l
   old_inside = omega (arith, h.inside, (good_passed h.old_good).counted.long)
 
-  __ with the Sorry put back, and with the filling's root again
+  -- with the Sorry put back, and with the filling's root again
   pub waiting : (r : Record) (j : List ℕ) → r ≡ term_bytes l q → Put e (props e + q + 1) r j → Joined l f q (term_bytes l q) j
   waiting r j k p = subst (λ (r : Record). Joined l f q r j) k (joined_put E h.inside r j p)
 
@@ -81,33 +81,33 @@ module _ {l f : List ℕ} {q : ℕ} {e : List ℕ} (h : Fillable l f q) (E : Edi
   o : Passed Check l
   o = good_passed h.old_good
 
-  __ j IS THAT TABLE with the Sorry still in its place, and the picture of the goal of this number is asked for
+  -- j IS THAT TABLE with the Sorry still in its place, and the picture of the goal of this number is asked for
   module _ {j : List ℕ} (J : Joined l f q (term_bytes l q) j) (number : ℕ) where
-    same-props : props j ≡ props e
-    same-props = (joined_counts E J).0
+    same_props : props j ≡ props e
+    same_props = (joined_counts E J).0
 
-    old-terms : term_at j 0 ≡ term_at l 0
-    old-terms = waiting_term h J 0 o.counted.some
+    old_terms : term_at j 0 ≡ term_at l 0
+    old_terms = waiting_term h J 0 o.counted.some
 
     pub wants : (n : ℕ) → n ≡ expected j → n < count_of j (beginning number)
     wants n k = omega (arith, k, expected_joined J, props_joined J, expected_in o.linked)
 
     module _ {old : List ℕ} (R : Rooms) (x : Exact R) (loaded : load.Loaded e old R.props) where
-      waiting-loaded : Loaded j R.props (count_of j (beginning number))
-      waiting-loaded =
+      waiting_loaded : Loaded j R.props (count_of j (beginning number))
+      waiting_loaded =
           record {
-            arena = subst (λ (c : ℕ). Arena R.props c) (omega (arith, same-props)) loaded.arena;
+            arena = subst (λ (c : ℕ). Arena R.props c) (omega (arith, same_props)) loaded.arena;
             first = omega arith;
             table =
                 λ m k.
-                let m-in : m < props e = omega (arith, same-props) in
-                ap (λ (c : ℕ). room_at c R.props m) same-props ∙ loaded.means m m-in ∙ sym (joined_props E J (whole-directed h E (replaces h)) m m-in);
+                let m_in : m < props e = omega (arith, same_props) in
+                ap (λ (c : ℕ). room_at c R.props m) same_props ∙ loaded.means m m_in ∙ sym (joined_props E J (whole_directed h E (replaces h)) m m_in);
             long = omega (arith, x.props);
           }
 
-      pub ready-waiting : Ready j R 0 (beginning number)
-      ready-waiting =
-          let all : nodes (term_at j 0) ≡ terms l = ap nodes old-terms ∙ nodes_root o.formed o.linked o.counted.some in
+      pub ready_waiting : Ready j R 0 (beginning number)
+      ready_waiting =
+          let all : nodes (term_at j 0) ≡ terms l = ap nodes old_terms ∙ nodes_root o.formed o.linked o.counted.some in
           let ps = props_joined E in
           let ts = terms_joined E in
           let tj = terms_joined J in
@@ -118,11 +118,11 @@ module _ {l f : List ℕ} {q : ℕ} {e : List ℕ} (h : Fillable l f q) (E : Edi
                 record {
                   table =
                       record {
-                        counted = whole-counted h J (omega (arith, counted.propositions)) (omega (arith, counted.few));
-                        formed = whole-formed h J (stays h);
-                        directed = whole-directed h J (stays h);
+                        counted = whole_counted h J (omega (arith, counted.propositions)) (omega (arith, counted.few));
+                        formed = whole_formed h J (stays h);
+                        directed = whole_directed h J (stays h);
                       };
-                  loaded = waiting-loaded;
+                  loaded = waiting_loaded;
                   entries = λ i k. absurd (omega arith);
                   made = omega arith;
                   tree_room = omega (arith, x.tree);
@@ -136,14 +136,14 @@ module _ {l f : List ℕ} {q : ℕ} {e : List ℕ} (h : Fillable l f q) (E : Edi
             context = omega arith;
           }
 
-      __ THE RUN is the old one
+      -- THE RUN is the old one
       root_is : (n : ℕ) → n ≡ expected j → run_of j R 0 (check (reads j R.props (sort.Proposition (record { 0 = n })))) (beginning number) ≡ root_run l
       root_is n k =
-          let n-in : n < props j = omega (arith, wants n k) in
-          let old-in : expected l < props l = expected_in o.linked in
-          ap (λ (t : Term). run t (check (prop (room_at (props j) R.props n))) (ctx_of j R.props R.work 0) (start_of l)) old-terms
+          let n_in : n < props j = omega (arith, wants n k) in
+          let old_in : expected l < props l = expected_in o.linked in
+          ap (λ (t : Term). run t (check (prop (room_at (props j) R.props n))) (ctx_of j R.props R.work 0) (start_of l)) old_terms
           ∙ ap₂ (λ (A : Prop) (Γ : Ctx). run (term_at l 0) (check (prop A)) Γ (start_of l))
-          (waiting-loaded.table n n-in ∙ ap (prop_at j) (k ∙ expected_joined J) ∙ whole_prop h J (expected l) old-in)
+          (waiting_loaded.table n n_in ∙ ap (prop_at j) (k ∙ expected_joined J) ∙ whole_prop h J (expected l) old_in)
           (ctx_none (reads j R.props) R.work)
 
       module _ (R' : Rooms) (r : Outcome) (n : ℕ) (k : n ≡ expected j) (meets : Meets j R R' 0 (want.Check (sort.Proposition (record { 0 = n }))) (beginning number) r)
@@ -162,31 +162,31 @@ module _ {l f : List ℕ} {q : ℕ} {e : List ℕ} (h : Fillable l f q) (E : Edi
             picture_at 0 goal.stands (omega (arith, goal.number))
             (subst⁻¹ (λ (b : Answer). PicturesAre j R'.props R'.work number (count_of j accepts.0) 0 b.tree) same a.left.pictures)
 
-        __ over the edited table again
-        pub picture-there : PictureIs e R'.props R'.work (count_of j accepts.0) g
-        picture-there = picture_moved pictured (sym same-props) (sym (joined_counts E J).1)
+        -- over the edited table again
+        pub picture_there : PictureIs e R'.props R'.work (count_of j accepts.0) g
+        picture_there = picture_moved pictured (sym same_props) (sym (joined_counts E J).1)
 
-        pub few-pictured : (pictured_state R'.work).context ≤ most_entries
-        few-pictured = omega (arith, picture-there.few_entries, counted.few)
+        pub few_pictured : (pictured_state R'.work).context ≤ most_entries
+        few_pictured = omega (arith, picture_there.few_entries, counted.few)
 
-        __ so the hole is reached when the context is back
+        -- so the hole is reached when the context is back
         module _ (here : g.term ≡ q) (s : Start) (work : List ℕ) (t : s.wanted ≡ pictured_type R'.work) (st : s.state ≡ pictured_state R'.work)
             (copied : Copied R'.work first_pictured 0 (pictured_state R'.work).context work) where
           abbrev pub after : Rooms
           after = rooms R'.tree R'.goals R'.props work
 
           starts : StartsAt e R'.props work g s.wanted s.state
-          starts = recalled picture-there t st copied
+          starts = recalled picture_there t st copied
 
           kept : Same (props e) R.props R'.props
-          kept n y = accepts.1.left.grown.props n (omega (arith, same-props))
+          kept n y = accepts.1.left.grown.props n (omega (arith, same_props))
 
-          loaded-there : Loaded e R'.props (count_of e s.state)
-          loaded-there =
+          loaded_there : Loaded e R'.props (count_of e s.state)
+          loaded_there =
               let left = accepts.1.left in
               let counts : count_of e s.state ≡ count_of e (pictured_state R'.work) = ap (count_of e) st in
               record {
-                arena = arena_less left.grown.arena (count_of e s.state) (omega (arith, counts, picture-there.still));
+                arena = arena_less left.grown.arena (count_of e s.state) (omega (arith, counts, picture_there.still));
                 first = omega arith;
                 table = λ m y. room_same R'.props loaded.arena kept (props e) m y ∙ loaded.means m y;
                 long = omega (arith, x.props, left.grown.props_long);
@@ -196,15 +196,15 @@ module _ {l f : List ℕ} {q : ℕ} {e : List ℕ} (h : Fillable l f q) (E : Edi
           unfolding pictured_state
           none_yet = (ap (λ (s : State). s.records) st, ap (λ (s : State). s.goals) st)
 
-          ready-there : Ready e after g.term s.state
-          ready-there =
+          ready_there : Ready e after g.term s.state
+          ready_there =
               let left = accepts.1.left in
-              let script : nodes (term_at j 0) ≡ nodes (term_at l 0) = ap nodes old-terms in
-              ready_hole after g.term (nodes (term_at j 0)) (record { counted = counted; formed = whole-formed h E (replaces h); directed = whole-directed h E (replaces h) }) loaded-there starts
+              let script : nodes (term_at j 0) ≡ nodes (term_at l 0) = ap nodes old_terms in
+              ready_hole after g.term (nodes (term_at j 0)) (record { counted = counted; formed = whole_formed h E (replaces h); directed = whole_directed h E (replaces h) }) loaded_there starts
               (omega (arith, x.tree, left.grown.tree_long)) (omega (arith, x.goals, left.grown.goals_long)) (omega (arith, x.work, left.grown.work_long, copied.size))
               none_yet.0 none_yet.1 (omega (arith, here, h.inside, terms_joined E, (good_passed h.good).counted.some))
               (subst⁻¹ (λ (q : ℕ). nodes (term_at e q) + nodes (term_at j 0) ≡ terms e + 1) here (hole_nodes h E J))
               (subst⁻¹ (λ (n : ℕ). Reached n 0 (start_of l) g) script (gap_reached (term_at l 0) _ (context_of l) (start_of l) goal.answer goal.state goal.accepts goal.stands))
 
           pub reached : ReachedFor e after s g
-          reached = record { starts = starts; no_records = none_yet.0; no_goals = none_yet.1; ready = ready-there; table = λ n y. kept n y ∙ loaded.all.records n y }
+          reached = record { starts = starts; no_records = none_yet.0; no_goals = none_yet.1; ready = ready_there; table = λ n y. kept n y ∙ loaded.all.records n y }

@@ -1,4 +1,4 @@
-__ The filling's run over the edited table is the rules' run at the goal. Assumes nothing.
+-- The filling's run over the edited table is the rules' run at the goal. Assumes nothing.
 use mathlib.Core.Path.{◌≡◌, ap, sym, subst, subst⁻¹, subst₂, ◌∙◌}
 use mathlib.Core.List.{List}
 use Prim.Native.Nat.{ℕ, ◌≤◌}
@@ -17,7 +17,7 @@ use Rattle.rules.proofs.Spent.{Spent, run_spends}
 use Rattle.table.specs.Reading.{term_at}
 use Rattle.table.proofs.Passing.{good_passed}
 use Rattle.editing.specs.Edited.{Fillable, Edited}
-use Rattle.editing.proofs.Edits.{filling-nodes}
+use Rattle.editing.proofs.Edits.{filling_nodes}
 use Rattle.step.specs.declared.picture.Start.{Start}
 use Rattle.step.specs.declared.state.State.{State}
 use Rattle.step.specs.declared.state.Ran.{Ran as Outcome}
@@ -85,11 +85,11 @@ module _ (e : List ℕ) (q : ℕ) (R R' : Rooms) (s : Start) (g : Gap) (x : Exac
             omega (arith, z.serials_grow, same),
           )
 
-__ the filling has no more nodes than a table may have terms
+-- the filling has no more nodes than a table may have terms
 pub few_nodes : {l f : List ℕ} {q : ℕ} {e : List ℕ} → Fillable l f q → Edited l f q e → nodes (term_at e q) ≤ most_terms
-few_nodes h E = omega (arith, filling-nodes h E, (good_passed h.good).counted.few)
+few_nodes h E = omega (arith, filling_nodes h E, (good_passed h.good).counted.few)
 
-__ THE TABLE stands where it stood before, and goal k is at q
+-- THE TABLE stands where it stood before, and goal k is at q
 module _ (l : List ℕ) (k q : ℕ) (hole : HoleAt l k q) (e e₁ : List ℕ) (same : e₁ ≡ e) (R : Rooms) (s : Start) (at-hole : Reached l k e R s) where
   pub hole_ready : Ready e₁ R q s.state × TypeIn (count_of e₁ s.state) s.wanted
   hole_ready =
@@ -98,23 +98,23 @@ module _ (l : List ℕ) (k q : ℕ) (hole : HoleAt l k q) (e e₁ : List ℕ) (s
       (subst (λ (q : ℕ). Ready e R q s.state) hole.here r.ready, r.starts.wanted.among)
 
   module _ (x : Exact R) (few : nodes (term_at e q) ≤ most_terms) (R' : Rooms) (r : Outcome) (meets : Meets e₁ R R' q (want.Check s.wanted) s.state r) where
-    over-e : Meets e R R' q (want.Check s.wanted) s.state r
-    over-e = subst (λ (e : List ℕ). Meets e R R' q (want.Check s.wanted) s.state r) same meets
+    over_e : Meets e R R' q (want.Check s.wanted) s.state r
+    over_e = subst (λ (e : List ℕ). Meets e R R' q (want.Check s.wanted) s.state r) same meets
 
-    pub hole-fits : (size : ℕ) → 16 ≤ size → Exact R' → Fitting e₁ size s.state.serials R' r
-    hole-fits size long y =
+    pub hole_fits : (size : ℕ) → 16 ≤ size → Exact R' → Fitting e₁ size s.state.serials R' r
+    hole_fits size long y =
         subst⁻¹ (λ (e : List ℕ). Fitting e size s.state.serials R' r) same
-        (hole_fitting e q R R' s hole.gap x (at-hole hole.gap hole.goal) hole.here few size long y r over-e)
+        (hole_fitting e q R R' s hole.gap x (at-hole hole.gap hole.goal) hole.here few size long y r over_e)
 
-    pub hole-meets : (g : Gap) → GoalOf l k g → (g.state.serials ≡ s.state.serials) × RanAs e₁ (at_goal (term_at e g.term) g) R' r
-    hole-meets g goal =
+    pub hole_meets : (g : Gap) → GoalOf l k g → (g.state.serials ≡ s.state.serials) × RanAs e₁ (at_goal (term_at e g.term) g) R' r
+    hole_meets g goal =
         let z = at-hole g goal in
         let here : g.term ≡ q = ap (λ (g : Gap). g.term) (goal_same goal hole.goal) ∙ hole.here in (
           sym (ap (λ (st : St). st.serials) z.starts.counts),
-          subst⁻¹ (λ (e₁ : List ℕ). RanAs e₁ (at_goal (term_at e g.term) g) R' r) same (hole_ran e q R R' s g x z here few r over-e),
+          subst⁻¹ (λ (e₁ : List ℕ). RanAs e₁ (at_goal (term_at e g.term) g) R' r) same (hole_ran e q R R' s g x z here few r over_e),
         )
 
-__ so the answer is that of the rules' run at the goal
+-- so the answer is that of the rules' run at the goal
 pub run_from : (l : List ℕ) (k : ℕ) (e e₁ : List ℕ) → e₁ ≡ e → (S S₁ S' : Lent) → ExactAll S → ExactAll S₁ → (serials : ℕ) (answer : Outcome) (r : Filled) → Finishes S₁ S' e₁ serials answer r
     → ((g : Gap) → GoalOf l k g → (g.state.serials ≡ serials) × RanAs e₁ (at_goal (term_at e g.term) g) S₁.rooms answer) → RunsFilling S S' l k e r
 run_from l k e e₁ same S S₁ S' x y serials answer r f z g goal =

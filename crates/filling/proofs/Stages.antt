@@ -1,4 +1,4 @@
-__ The stages of a filling's answer, each from what its step found. Assumes nothing.
+-- The stages of a filling's answer, each from what its step found. Assumes nothing.
 use mathlib.Core.Path.{◌≡◌, ap, sym, subst, subst⁻¹, ◌∙◌}
 use mathlib.Core.Bool.{true, false, true≢false}
 use mathlib.Core.List.{List}
@@ -37,7 +37,7 @@ use Rattle.filling.specs.Fill.{Lent, Refuses, EditedAs, Goal, GoalAs, FillingAs,
 use Rattle.filling.specs.Steps.{ExactAll, OldRan, GoalOf, HoleAt, RunsFilling, FillsHole, FillsGoal}
 use Rattle.filling.proofs.Overs.{carries_over, run_on, goal_on, filling_on}
 
-__ 2. THE OLD TABLE
+-- 2. THE OLD TABLE
 module _ (l f : List ℕ) (k : ℕ) (S S₁ S' : Lent) (x : ExactAll S) (y : ExactAll S₁) (m : Mark) (r : Filled) where
   pub old_refused : (u : Refusal) → m ≡ mark.Refused u → (o : Out Answer) → MarkedAs l S.rooms S₁.rooms o m → Refuses S₁ S' u Old r → OldAs S S' l f k r o
   old_refused u e (stop s) h z = subst (λ (u : Refusal). Refuses S S' u Old r) (ap (refused_by u) (sym e ∙ h.0)) ((carries_over S S₁ S' x y).refuses z)
@@ -54,7 +54,7 @@ old_ran l R R₁ m c e (ok a st) t h =
     let z = table_ok l a st (sym t) in
     record { good = z.0; answer = a; state = st; accepts = z.1; holds = h.1.holds; goals = ap (λ (m : Mark). (counts_of_mark c m).goals) (sym e ∙ h.0) }
 
-__ 3. THE FILLING'S TESTS
+-- 3. THE FILLING'S TESTS
 pub filling_good : (f work left : List ℕ) (v : Verdict) → length work ≡ work_bytes → Tested purpose.Filling f work left v → v ≡ verdict.Passes → Good purpose.Filling f
 filling_good f work left v x t e = sym (verdict_is purpose.Filling f work left v x t) ∙ e
 
@@ -65,24 +65,24 @@ module _ (l f : List ℕ) (k : ℕ) (S S₁ S' : Lent) (x : ExactAll S) (y : Exa
   pub filling_refused : (u : Refusal) → v ≡ verdict.Refused u → Refuses S₁ S' u Filling r → FillsGoal S S' l f k r
   filling_refused u e z a st h = subst (FillingAs S S' l f k a r) (sym e ∙ verdict_of) ((carries_over S S₁ S' x y).refuses z)
 
-  __ 4. THE GOAL
+  -- 4. THE GOAL
   module _ (e : v ≡ verdict.Passes) (count : ℕ) (old : OldRan l S.rooms count) where
-    count-is : (a : Answer) (st : St) → root_run l ≡ ok a st → count ≡ holes a.tree
-    count-is a st h = old.goals ∙ ap (λ (a : Answer). holes a.tree) (same_answer old.accepts h)
+    count_is : (a : Answer) (st : St) → root_run l ≡ ok a st → count ≡ holes a.tree
+    count_is a st h = old.goals ∙ ap (λ (a : Answer). holes a.tree) (same_answer old.accepts h)
 
-    pub goal-missing : count ≤ k → (u : Refusal) → u ≡ refusal_at 31 0 → Refuses S₁ S' u Old r → FillsGoal S S' l f k r
-    goal-missing few u eu z a st h =
-        let c = count-is a st h in
+    pub goal_missing : count ≤ k → (u : Refusal) → u ≡ refusal_at 31 0 → Refuses S₁ S' u Old r → FillsGoal S S' l f k r
+    goal_missing few u eu z a st h =
+        let c = count_is a st h in
         let b : ltb k (holes a.tree) ≡ false = le-ltb k (holes a.tree) (omega arith) in
         subst (FillingAs S S' l f k a r) (sym e ∙ verdict_of) (subst⁻¹ (GoalAs S S' l f k a r) b (subst (λ (u : Refusal). Refuses S S' u Old r) eu ((carries_over S S₁ S' x y).refuses z)))
 
-    pub goal-found : k < count → FillsHole S₁ S' l f k r → FillsGoal S S' l f k r
-    goal-found there z a st h =
-        let c = count-is a st h in
+    pub goal_found : k < count → FillsHole S₁ S' l f k r → FillsGoal S S' l f k r
+    goal_found there z a st h =
+        let c = count_is a st h in
         let b : ltb k (holes a.tree) ≡ true = lt-ltb k (holes a.tree) (omega arith) in
         subst (FillingAs S S' l f k a r) (sym e ∙ verdict_of) (subst⁻¹ (GoalAs S S' l f k a r) b (goal_on (carries_over S S₁ S' x y) l f k a r (z a st h)))
 
-__ the hole's number is in the goal's record
+-- the hole's number is in the goal's record
 module _ (l f : List ℕ) (R : Rooms) (count k : ℕ) (old : OldRan l R count) (there : k < count) where
   spot : (g : Gap) × (p : At g old.answer.tree) × (length (before p) ≡ k)
   spot = goal_place k old.answer.tree (omega (arith, old.goals))
@@ -104,7 +104,7 @@ pub hole_fillable : (l f : List ℕ) (k q : ℕ) → Good purpose.Check l → Go
 hole_fillable l f k q good fills h =
     subst (Fillable l f) h.here (goal_fillable l f good fills h.goal.answer h.goal.state h.goal.accepts h.gap h.goal.stands)
 
-__ 5. THE EDITED TABLE e
+-- 5. THE EDITED TABLE e
 module _ (l f : List ℕ) (k q : ℕ) (h : HoleAt l k q) (S S₁ S' : Lent) (x : ExactAll S) (y : ExactAll S₁) (e : List ℕ) (bytes : Bytes e) (edited : Edited l f q e) (v : Verdict) (t : v ≡ edited_tests e) (r : Filled) where
   as_goal : ((g : Gap) → GoalOf l k g → EditedAs S S' e g r (edited_tests e)) → FillsHole S S' l f k r
   as_goal z a st c =

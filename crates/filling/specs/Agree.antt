@@ -1,7 +1,7 @@
-__ DEMAND 3 about bytes: filling a goal says what a fresh check of the edited table says. Three calls: a check of table l is accepted, its goal k is filled
-__ with f, and the edited table is checked. `Settled` has what the first two found; `Agrees` holds the third to the second. After an accepted filling
-__ a fresh check is refused for the limit (30) or not at all: no other number comes from tests or rules.
-__ Assumes nothing.
+-- DEMAND 3 about bytes: filling a goal says what a fresh check of the edited table says. Three calls: a check of table l is accepted, its goal k is filled
+-- with f, and the edited table is checked. `Settled` has what the first two found; `Agrees` holds the third to the second. After an accepted filling
+-- a fresh check is refused for the limit (30) or not at all: no other number comes from tests or rules.
+-- Assumes nothing.
 use Rattle.std.specs.Prelude.{◌≡◌, true, ◌⊎◌, List, ◌++◌, map, ℕ, ◌+◌, ◌-◌, ◌<◌, ◌≤◌}
 use Rattle.numbers.specs.Refusals.{refusal_at}
 use Rattle.rules.specs.State.{St, limit, later}
@@ -22,11 +22,11 @@ use Rattle.filling.specs.declared.answer.Filled.{Filled}
 use Rattle.filling.specs.declared.answer.Filled.TheVariants as fill
 use Rattle.filling.specs.Fill.{Lent, all_long, Accepts, Goal, Fills}
 
-__ WHAT THE FILLING ITSELF MADE, of its answer's counts: the propositions made before the hole are not its own
+-- WHAT THE FILLING ITSELF MADE, of its answer's counts: the propositions made before the hole are not its own
 abbrev pub own : Gap → Counts → St
 own g c = record { serials = c.serials; made = c.made - g.state.made }
 
-__ the old counts with the filling's, in place of one goal, where it made d
+-- the old counts with the filling's, in place of one goal, where it made d
 abbrev pub joint : (old filling : Counts) → St → Counts
 joint o c d =
     record {
@@ -36,9 +36,9 @@ joint o c d =
       made = o.made + d.made;
     }
 
-__ A FRESH CHECK of the edited table, in rooms R: it is marked m, and leaves R'. The old check ended with a and st, and z is its goal
+-- A FRESH CHECK of the edited table, in rooms R: it is marked m, and leaves R'. The old check ended with a and st, and z is its goal
 module _ {S S' : Lent} {l f : List ℕ} {k : ℕ} {a : Answer} {r : Filled} (z : Goal S S' l f k a r) (st : St) (R R' : Rooms) (m : Mark) where
-  __ either there is no room for all that both made: it is refused 30 at a term of the old table that runs after the hole
+  -- either there is no room for all that both made: it is refused 30 at a term of the old table that runs after the hole
   pub record Outgrown (d : St) : Type 0 where
     pub over : limit < st.made + d.made
     pub place : ℕ
@@ -46,8 +46,8 @@ module _ {S S' : Lent} {l f : List ℕ} {k : ℕ} {a : Answer} {r : Filled} (z :
     pub answer : m ≡ mark.Refused (refusal_at 30 place)
     pub rooms : Emptied R R'
 
-  __ or it is accepted: in the old tree the filling's own stands for the goal, as do its goals, and serials made after the hole are moved up by as many as
-  __ the filling made. Only the numbers of made propositions are left open, as after any check
+  -- or it is accepted: in the old tree the filling's own stands for the goal, as do its goals, and serials made after the hole are moved up by as many as
+  -- the filling made. Only the numbers of made propositions are left open, as after any check
   pub record Grafted (c : Counts) (d : St) : Type 0 where
     pub fits : st.made + d.made ≤ limit
     pub filling : Answer
@@ -58,12 +58,12 @@ module _ {S S' : Lent} {l f : List ℕ} {k : ℕ} {a : Answer} {r : Filled} (z :
     pub goals : goals (filled z.goal a z.stands filling.tree d).tree
         ≡ before z.stands ++ (goals filling.tree ++ map (move_gap (lift z.goal d) d) (after z.stands))
 
-  __ IT AGREES with the filling's answer. A refusal, by the edited table's tests or by the filling's run, is the same at the same place
+  -- IT AGREES with the filling's answer. A refusal, by the edited table's tests or by the filling's run, is the same at the same place
   abbrev pub Agrees : Filled → Type 0
   Agrees (fill.Refused e w) = (w ≡ Edit) × (m ≡ mark.Refused e) × Emptied R R'
   Agrees (fill.Accepted c) = Outgrown (own z.goal c) ⊎ Grafted c (own z.goal c)
 
-__ THE OLD CHECK, accepted with the counts c: what the rules say of the table, and what is left in its rooms
+-- THE OLD CHECK, accepted with the counts c: what the rules say of the table, and what is left in its rooms
 pub record FirstCheck (l : List ℕ) (Q Q' : Rooms) (c : Counts) : Type 0 where
   pub answer : Answer
   pub state : St
@@ -71,13 +71,13 @@ pub record FirstCheck (l : List ℕ) (Q Q' : Rooms) (c : Counts) : Type 0 where
   pub counts : c ≡ counts_of answer state
   pub rooms : Kept l Q Q' answer state
 
-__ WHAT THE FIRST TWO CALLS FOUND, and that every fresh check agrees
+-- WHAT THE FIRST TWO CALLS FOUND, and that every fresh check agrees
 pub record Settled (l f : List ℕ) (k : ℕ) (Q Q' : Rooms) (c : Counts) (S S' : Lent) (r : Filled) : Type 0 where
   pub old : FirstCheck l Q Q' c
   pub goal : Goal S S' l f k old.answer r
   pub fresh : (R R' : Rooms) (m : Mark) → long_enough R ≡ true → Marks goal.table R R' m → Agrees goal old.state R R' m r
 
-__ THE THEOREM, for a goal's number k, a filling f that passes its own tests, and rooms that are long enough
+-- THE THEOREM, for a goal's number k, a filling f that passes its own tests, and rooms that are long enough
 abbrev pub Demand3Bytes : Type 0
 Demand3Bytes =
     (l f : List ℕ) (k : ℕ) (Q Q' : Rooms) (c : Counts) (S S' : Lent) (r : Filled) → Marks l Q Q' (mark.Accepted c) → Fills S S' l f k r

@@ -1,5 +1,5 @@
-__ The answer to filling a goal, in any rooms, by cases on what document 01 says of the two tables and the goal's number ("Tree, goals, filling";
-__ the tests are in its order). Assumes nothing.
+-- The answer to filling a goal, in any rooms, by cases on what document 01 says of the two tables and the goal's number ("Tree, goals, filling";
+-- the tests are in its order). Assumes nothing.
 use Rattle.std.specs.Prelude.{◌≡◌, Bool, true, false, ◌&&◌, List, ℕ, ◌-◌, length, take, leb, ltb}
 use Rattle.numbers.specs.declared.refusal.Refusal.{Refusal}
 use Rattle.numbers.specs.Refusals.{refusal_at}
@@ -23,7 +23,7 @@ use Rattle.filling.specs.declared.answer.Which.TheVariants.{Old, Filling, Edit}
 use Rattle.filling.specs.declared.answer.Filled.{Filled}
 use Rattle.filling.specs.declared.answer.Filled.TheVariants as filled
 
-__ THE LENT ROOMS: a check's four, and one for the edited table
+-- THE LENT ROOMS: a check's four, and one for the edited table
 pub record Lent : Type 0 where
   pub rooms : Rooms
   pub edited : List ℕ
@@ -34,13 +34,13 @@ lent t g p w e = record { rooms = rooms t g p w; edited = e }
 unfoldable pub all_long : Lent → Bool
 all_long S = long_enough S.rooms && leb edited_bytes (length S.edited)
 
-__ A REFUSAL, with the table that its place is in
+-- A REFUSAL, with the table that its place is in
 pub record Refuses (S S' : Lent) (z : Refusal) (w : Which) (r : Filled) : Type 0 where
   pub answer : r ≡ filled.Refused z w
   pub rooms : Emptied S.rooms S'.rooms
   pub edited : S'.edited ≡ cleared edited_bytes S.edited
 
-__ AN ACCEPTANCE: tree and goals of the filling alone, all propositions that were made until it was done, and the edited table e
+-- AN ACCEPTANCE: tree and goals of the filling alone, all propositions that were made until it was done, and the edited table e
 abbrev pub counts_from : Gap → Answer → St → Counts
 counts_from g b st = record { records = records b.tree; goals = holes b.tree; serials = st.serials - g.state.serials; made = st.made }
 
@@ -50,18 +50,18 @@ pub record Accepts (S S' : Lent) (e : List ℕ) (g : Gap) (b : Answer) (st : St)
   pub table : take (length e) S'.edited ≡ e
   pub rest : cleared (length e) S'.edited ≡ cleared edited_bytes S.edited
 
-__ 6. THE FILLING'S RUN, from the context and the counts reached at the hole
+-- 6. THE FILLING'S RUN, from the context and the counts reached at the hole
 abbrev pub RunAs : (S S' : Lent) → (e : List ℕ) → Gap → Filled → Out Answer → Type 0
 RunAs S S' e g r (stop z) = Refuses S S' (told z) Edit r
 RunAs S S' e g r (ok b st) = Accepts S S' e g b st r
 
-__ 5. THE EDITED TABLE'S TESTS 3 and 6
+-- 5. THE EDITED TABLE'S TESTS 3 and 6
 abbrev pub EditedAs : (S S' : Lent) → (e : List ℕ) → Gap → Filled → Verdict → Type 0
 EditedAs S S' e g r (verdict.Refused z) = Refuses S S' z Edit r
 EditedAs S S' e g r verdict.Passes = RunAs S S' e g r (at_goal (term_at e g.term) g)
 
-__ 4. THE GOAL k of the old run, if there is one: g, which stands at p with k goals before it; and the table edited at its Sorry record, of which there is but
-__ one that is a list of bytes
+-- 4. THE GOAL k of the old run, if there is one: g, which stands at p with k goals before it; and the table edited at its Sorry record, of which there is but
+-- one that is a list of bytes
 pub record Goal (S S' : Lent) (l f : List ℕ) (k : ℕ) (a : Answer) (r : Filled) : Type 0 where
   pub goal : Gap
   pub stands : At goal a.tree
@@ -75,21 +75,21 @@ abbrev pub GoalAs : (S S' : Lent) → (l f : List ℕ) → ℕ → Answer → Fi
 GoalAs S S' l f k a r false = Refuses S S' (refusal_at 31 0) Old r
 GoalAs S S' l f k a r true = Goal S S' l f k a r
 
-__ 3. THE FILLING'S TESTS 2 to 6
+-- 3. THE FILLING'S TESTS 2 to 6
 abbrev pub FillingAs : (S S' : Lent) → (l f : List ℕ) → ℕ → Answer → Filled → Verdict → Type 0
 FillingAs S S' l f k a r (verdict.Refused z) = Refuses S S' z Filling r
 FillingAs S S' l f k a r verdict.Passes = GoalAs S S' l f k a r (ltb k (holes a.tree))
 
-__ 2. THE OLD TABLE'S TESTS AND RUN
+-- 2. THE OLD TABLE'S TESTS AND RUN
 abbrev pub OldAs : (S S' : Lent) → (l f : List ℕ) → ℕ → Filled → Out Answer → Type 0
 OldAs S S' l f k r (stop z) = Refuses S S' (told z) Old r
 OldAs S S' l f k r (ok a st) = FillingAs S S' l f k a r (tests purpose.Filling f)
 
-__ 1. THE ROOMS
+-- 1. THE ROOMS
 abbrev pub RoomsAs : (S S' : Lent) → (l f : List ℕ) → ℕ → Filled → Bool → Type 0
 RoomsAs S S' l f k r false = Refuses S S' (refusal_at 1 0) Old r
 RoomsAs S S' l f k r true = OldAs S S' l f k r (table_run l)
 
-__ THE ANSWER r to filling goal k of table l with table f
+-- THE ANSWER r to filling goal k of table l with table f
 abbrev pub Fills : (S S' : Lent) → (l f : List ℕ) → ℕ → Filled → Type 0
 Fills S S' l f k r = RoomsAs S S' l f k r (all_long S)

@@ -1,4 +1,4 @@
-__ What a tester asks of a filling, as statements about `Fills` alone; proved in proofs/Promises.antt. Assumes nothing.
+-- What a tester asks of a filling, as statements about `Fills` alone; proved in proofs/Promises.antt. Assumes nothing.
 use Rattle.std.specs.Prelude.{◌≡◌, List, ℕ, ◌<◌, length, get_or, take}
 use Rattle.rules.specs.Term.{sorries}
 use Rattle.table.specs.declared.Purpose.TheVariants.{Check}
@@ -12,12 +12,12 @@ use Rattle.filling.specs.declared.answer.Filled.{Filled}
 use Rattle.filling.specs.declared.answer.Filled.TheVariants as filled
 use Rattle.filling.specs.Fill.{Lent, all_long, Fills}
 
-__ THE EDITED TABLE that is left in its room
+-- THE EDITED TABLE that is left in its room
 abbrev pub left_table : (l f : List ℕ) → Lent → List ℕ
 left_table l f S = take (edited_size l f) S.edited
 
-__ AN ACCEPTED FILLING OF GOAL k LEAVES THERE the old table edited at its Sorry number k, counted from the left: it passes a check's tests, and it stands
-__ for the old script with the filling in that Sorry's place
+-- AN ACCEPTED FILLING OF GOAL k LEAVES THERE the old table edited at its Sorry number k, counted from the left: it passes a check's tests, and it stands
+-- for the old script with the filling in that Sorry's place
 abbrev pub sorry_of : List ℕ → ℕ → ℕ
 sorry_of l k = get_or (sorries (term_at l 0)) k 0
 
@@ -31,14 +31,14 @@ pub record LeftEdited (l f : List ℕ) (k : ℕ) (e : List ℕ) : Type 0 where
 abbrev pub LeavesEdited : Type 0
 LeavesEdited = (l f : List ℕ) (k : ℕ) (S S' : Lent) (c : Counts) → Fills S S' l f k (filled.Accepted c) → LeftEdited l f k (left_table l f S')
 
-__ ITS GOALS are the filling's Sorrys, where that stands in the edited table
+-- ITS GOALS are the filling's Sorrys, where that stands in the edited table
 abbrev pub FilledSorries : Type 0
 FilledSorries =
     (l f : List ℕ) (k : ℕ) (S S' : Lent) (c : Counts) → Fills S S' l f k (filled.Accepted c)
     → Sorries (term_at (left_table l f S') (sorry_of l k)) S'.rooms c
 
-__ TWO FILLINGS OF ONE GOAL WITH THE SAME BYTES AGREE, whatever the rooms held: in the answer, and after an acceptance in the edited table's bytes, in the
-__ filling's tree and goals, and in the edited table's propositions, as two checks of it would (what stands behind these is settled by `Fills`)
+-- TWO FILLINGS OF ONE GOAL WITH THE SAME BYTES AGREE, whatever the rooms held: in the answer, and after an acceptance in the edited table's bytes, in the
+-- filling's tree and goals, and in the edited table's propositions, as two checks of it would (what stands behind these is settled by `Fills`)
 pub record SameEdit (l f : List ℕ) (S' Z' : Lent) (c : Counts) : Type 0 where
   pub table : left_table l f S' ≡ left_table l f Z'
   pub trees : SameTree (left_table l f S') S'.rooms Z'.rooms c

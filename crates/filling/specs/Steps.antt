@@ -1,4 +1,4 @@
-__ What the steps of a filling know and promise, in rooms of just the listed sizes. Assumes nothing.
+-- What the steps of a filling know and promise, in rooms of just the listed sizes. Assumes nothing.
 use Rattle.std.specs.Prelude.{◌≡◌, List, ℕ, ◌*◌, ◌<◌, ◌≤◌, length}
 use Rattle.numbers.specs.Records.{record_at}
 use Rattle.layout.specs.File.{props}
@@ -28,7 +28,7 @@ pub record ExactAll (S : Lent) : Type 0 where
   pub rooms : Exact S.rooms
   pub edited : length S.edited ≡ edited_bytes
 
-__ THE OLD RUN was accepted, and the rooms hold its tree; it has so many goals
+-- THE OLD RUN was accepted, and the rooms hold its tree; it has so many goals
 pub record OldRan (l : List ℕ) (R : Rooms) (count : ℕ) : Type 0 where
   pub good : Good purpose.Check l
   pub answer : Answer
@@ -37,7 +37,7 @@ pub record OldRan (l : List ℕ) (R : Rooms) (count : ℕ) : Type 0 where
   pub holds : Holds l R answer state
   pub goals : count ≡ holes answer.tree
 
-__ g IS GOAL k of that run
+-- g IS GOAL k of that run
 pub record GoalOf (l : List ℕ) (k : ℕ) (g : Gap) : Type 0 where
   pub answer : Answer
   pub state : St
@@ -45,13 +45,13 @@ pub record GoalOf (l : List ℕ) (k : ℕ) (g : Gap) : Type 0 where
   pub stands : At g answer.tree
   pub number : length (before stands) ≡ k
 
-__ goal k is the Sorry record q
+-- goal k is the Sorry record q
 pub record HoleAt (l : List ℕ) (k q : ℕ) : Type 0 where
   pub gap : Gap
   pub goal : GoalOf l k gap
   pub here : gap.term ≡ q
 
-__ THE HOLE IS REACHED: the edited table e is loaded, the context of goal k of the old table l is back, and s is what the filling's run begins with
+-- THE HOLE IS REACHED: the edited table e is loaded, the context of goal k of the old table l is back, and s is what the filling's run begins with
 pub record ReachedFor (e : List ℕ) (R : Rooms) (s : Start) (g : Gap) : Type 0 where
   pub starts : StartsAt e R.props R.work g s.wanted s.state
   pub no_records : s.state.records ≡ 0
@@ -62,21 +62,21 @@ pub record ReachedFor (e : List ℕ) (R : Rooms) (s : Start) (g : Gap) : Type 0 
 abbrev pub Reached : (l : List ℕ) → (k : ℕ) → (e : List ℕ) → Rooms → Start → Type 0
 Reached l k e R s = (g : Gap) → GoalOf l k g → ReachedFor e R s g
 
-__ AFTER THE FILLING'S RUN over e, which has so many bytes: the counts are within the rooms, and serials were only added
+-- AFTER THE FILLING'S RUN over e, which has so many bytes: the counts are within the rooms, and serials were only added
 abbrev pub Fitting : (e : List ℕ) → (size serials : ℕ) → Rooms → Outcome → Type 0
 Fitting e size serials R (ran.Refused r) = Unit {0}
 Fitting e size serials R (ran.Has T st) =
     (16 ≤ size) × (count_of e st ≤ most_records) × (16 * st.records ≤ tree_bytes) × (8 * st.goals ≤ goals_bytes) × (serials ≤ st.serials)
 
-__ WHAT EACH STEP PROMISES, from the last to the first: the run's answer, for whatever run it was of
+-- WHAT EACH STEP PROMISES, from the last to the first: the run's answer, for whatever run it was of
 abbrev pub Finishes : (S S' : Lent) → (e : List ℕ) → (serials : ℕ) → Outcome → Filled → Type 0
 Finishes S S' e serials answer r = (g : Gap) (o : Out Answer) → g.state.serials ≡ serials → RanAs e o S.rooms answer → RunAs S S' e g r o
 
-__ the filling's run at goal k of l
+-- the filling's run at goal k of l
 abbrev pub RunsFilling : (S S' : Lent) → (l : List ℕ) → (k : ℕ) → (e : List ℕ) → Filled → Type 0
 RunsFilling S S' l k e r = (g : Gap) → GoalOf l k g → RunAs S S' e g r (at_goal (term_at e g.term) g)
 
-__ the goal's number, and the filling's tests
+-- the goal's number, and the filling's tests
 abbrev pub FillsHole : (S S' : Lent) → (l f : List ℕ) → ℕ → Filled → Type 0
 FillsHole S S' l f k r = (a : Answer) (st : St) → root_run l ≡ ok a st → Goal S S' l f k a r
 

@@ -1,2 +1,2 @@
-__ What the proofs of several functions use.
+-- What the proofs of several functions use.
 pub mod Strange

@@ -1,4 +1,4 @@
-__ Kinds past the last known one. Assumes nothing.
+-- Kinds past the last known one. Assumes nothing.
 use mathlib.Core.Path.{◌≡◌}
 use Prim.Native.Nat.{ℕ, zero, suc, ◌≤◌}
 use native.Mathlib.Omega.{arith}
@@ -13,7 +13,7 @@ pub strange_term : (k : ℕ) → 14 ≤ k → kind_of k ≡ Strange
 unfolding kinds kind_of
 strange_term k h = get_or-eq_default kinds Strange h
 
-__ what a match's last arm knows: the number is none of the first n
+-- what a match's last arm knows: the number is none of the first n
 abbrev pub Nots : ℕ → ℕ → Type 0
 Nots k zero = Unit {0}
 Nots k (suc n) = Nots k n × (k ≡ n → ⊥)

@@ -1,12 +1,12 @@
-__ Document 01, "The proof table file": the header's fields, where each record stands, and the kinds of record.
-__ Assumes nothing.
+-- Document 01, "The proof table file": the header's fields, where each record stands, and the kinds of record.
+-- Assumes nothing.
 use Rattle.std.specs.Prelude.{List, [], ◌∷◌, Bool, true, false, ℕ, ◌+◌, ◌*◌, get_or}
 use Rattle.numbers.specs.declared.record.Record.{Record}
 use Rattle.numbers.specs.Records.{word_at, record_at}
 use Rattle.rules.specs.Prop.{Link, and, or, imp, Quant, all, ex}
 use Rattle.layout.specs.declared.record.TermRecord.{TermRecord}
 
-__ THE HEADER: how many propositions, how many terms, and the number of the expected proposition
+-- THE HEADER: how many propositions, how many terms, and the number of the expected proposition
 abbrev pub props : List ℕ → ℕ
 props l = word_at l 6
 
@@ -16,15 +16,15 @@ terms l = word_at l 8
 abbrev pub expected : List ℕ → ℕ
 expected l = word_at l 10
 
-__ THE LENGTH of a file with p propositions and t terms: sixteen bytes for the header and for each record
+-- THE LENGTH of a file with p propositions and t terms: sixteen bytes for the header and for each record
 abbrev pub file_size : (p t : ℕ) → ℕ
 file_size p t = 16 + (16 * p + 16 * t)
 
-__ THE RECORDS: the header is as long as one, then the propositions, then the terms
+-- THE RECORDS: the header is as long as one, then the propositions, then the terms
 abbrev pub prop_record : List ℕ → ℕ → Record
 prop_record l n = record_at l (n + 1)
 
-__ the same sixteen bytes under a term's names
+-- the same sixteen bytes under a term's names
 abbrev pub as_term : Record → TermRecord
 as_term r =
     record {
@@ -42,7 +42,7 @@ as_term r =
 abbrev pub term_record : List ℕ → ℕ → TermRecord
 term_record l t = as_term (record_at l (props l + t + 1))
 
-__ KINDS OF PROPOSITION, by their number
+-- KINDS OF PROPOSITION, by their number
 pub data PropKind : Type 0 where
   constant : Bool → PropKind
   linked : Link → PropKind
@@ -57,7 +57,7 @@ unfoldable pub prop_kind : ℕ → PropKind
 unfolding prop_kinds
 prop_kind k = get_or prop_kinds k strange
 
-__ KINDS OF TERM, by their number
+-- KINDS OF TERM, by their number
 pub data Kind : Type 0 where
   Ident Pair ProjectFst ProjectSnd Function Application LetIn OrLeft OrRight Case Abort TheUnit TypeAscription Sorry Strange : Kind
 

@@ -1,5 +1,5 @@
-__ Document 01, refusal 4: a record's kind, tag and parameter count are known ones, and every field that the kind does not use is zero.
-__ Assumes nothing.
+-- Document 01, refusal 4: a record's kind, tag and parameter count are known ones, and every field that the kind does not use is zero.
+-- Assumes nothing.
 use Rattle.std.specs.Prelude.{Bool, ◌&&◌, ◌||◌, ℕ, get_or, eqb, leb, ltb}
 use Rattle.numbers.specs.declared.record.Record.{Record}
 use Rattle.layout.specs.declared.record.TermRecord.{TermRecord}
@@ -9,12 +9,12 @@ use Rattle.layout.specs.File.{PropKind, constant, linked, quantified, atomic, st
 use Rattle.layout.specs.File.{Kind, Ident, Pair, ProjectFst, ProjectSnd, Function, Application, LetIn}
 use Rattle.layout.specs.File.{OrLeft, OrRight, Case, Abort, TheUnit, TypeAscription, Sorry, Strange, kind_of}
 
-__ a field that is not used is zero
+-- a field that is not used is zero
 abbrev pub fits : Bool → ℕ → Bool
 fits used x = used || eqb x 0
 
-__ PROPOSITIONS: how many of the fields a, b, c a kind uses, how many children it has, and the least and most of its parameters.
-__ A kind that is not known admits no parameter count at all
+-- PROPOSITIONS: how many of the fields a, b, c a kind uses, how many children it has, and the least and most of its parameters.
+-- A kind that is not known admits no parameter count at all
 abbrev pub prop_row : (fields children least most : ℕ) → PropShape
 prop_row f c i j = record { fields = f; children = c; least = i; most = j }
 
@@ -36,7 +36,7 @@ in_prop_shape s r =
 unfoldable pub prop_form : Record → Bool
 prop_form r = in_prop_shape (prop_shape (prop_kind r.kind)) r
 
-__ TERMS: how many names and children a kind has, and its least and highest type tag. A kind that is not known admits no tag
+-- TERMS: how many names and children a kind has, and its least and highest type tag. A kind that is not known admits no tag
 abbrev pub term_row : (names children least most : ℕ) → TermShape
 term_row x c i j = record { names = x; children = c; least = i; most = j }
 
@@ -57,7 +57,7 @@ term_shape TypeAscription = term_row 0 1 1 2
 term_shape Sorry = term_row 0 0 0 0
 term_shape Strange = term_row 0 0 1 0
 
-__ a tag of 0 says that there is no type
+-- a tag of 0 says that there is no type
 abbrev pub in_term_shape : TermShape → TermRecord → Bool
 in_term_shape s r =
     (leb s.least r.tag && (leb r.tag s.most && fits (ltb 0 r.tag) r.typ))

@@ -1,3 +1,3 @@
-__ What the proofs of several functions use.
+-- What the proofs of several functions use.
 pub mod Records
 pub mod Rooms

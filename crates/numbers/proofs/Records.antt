@@ -1,4 +1,4 @@
-__ A record written into a room: what every number then reads. Assumes nothing.
+-- A record written into a room: what every number then reads. Assumes nothing.
 use mathlib.Core.Path.{◌≡◌, refl, ◌∙◌}
 use mathlib.Core.List.{List, [], ◌∷◌}
 use Prim.Native.Nat.{ℕ, ◌+◌, ◌*◌, ◌/◌, ◌%◌, ◌<◌, ◌≤◌}
@@ -11,7 +11,7 @@ use Rattle.numbers.specs.Records.{word_at, put_word, record_at, Put}
 pub length_word : (l : List ℕ) (i v : ℕ) → length (put_word l i v) ≡ length l
 length_word l i v = simp length-set
 
-__ what stands below or above a word is as it was
+-- what stands below or above a word is as it was
 get_word : (l : List ℕ) (i v j : ℕ) → (j ≡ i → ⊥) → (j ≡ i + 1 → ⊥) → get_or (put_word l i v) j 0 ≡ get_or l j 0
 get_word l i v j h k = get_or-set_other (set l i (v % 256)) (i + 1) j (v / 256) 0 k ∙ get_or-set_other l i j (v % 256) 0 h
 
@@ -33,7 +33,7 @@ word_set l i v j h k =
     let b : get_or (set l i v) (j + 1) 0 ≡ get_or l (j + 1) 0 = get_or-set_other l i (j + 1) v 0 k in
     cc
 
-__ a list of four is its elements
+-- a list of four is its elements
 four : (l : List ℕ) → length l ≡ 4 → get_or l 0 0 ∷ get_or l 1 0 ∷ get_or l 2 0 ∷ get_or l 3 0 ∷ [] ≡ l
 four [] h = absurd (omega arith)
 four (a ∷ []) h = absurd (omega arith)
@@ -42,7 +42,7 @@ four (a ∷ b ∷ c ∷ []) h = absurd (omega arith)
 four (a ∷ b ∷ c ∷ d ∷ []) h = refl
 four (a ∷ b ∷ c ∷ d ∷ e ∷ l) h = absurd (omega arith)
 
-__ the room after the nine stores of `put`, store by store
+-- the room after the nine stores of `put`, store by store
 abbrev pub head : List ℕ → ℕ → Record → List ℕ
 head l n r = set (set l (16 * n) r.kind) (16 * n + 1) r.count
 
@@ -67,7 +67,7 @@ stored₆ l n r = put_word (stored₅ l n r) (16 * n + 12) (get_or r.parameters 
 abbrev pub put_record : List ℕ → ℕ → Record → List ℕ
 put_record l n r = put_word (stored₆ l n r) (16 * n + 14) (get_or r.parameters 3 0)
 
-__ a store among the sixteen bytes of record n changes no other record
+-- a store among the sixteen bytes of record n changes no other record
 far_set : (l : List ℕ) (i v n m : ℕ) → (m ≡ n → ⊥) → 16 * n ≤ i → i < 16 * n + 16 → record_at (set l i v) m ≡ record_at l m
 unfolding record_at
 far_set l i v n m h lo hi =

@@ -1,8 +1,8 @@
-__ A refusal, as the code has it.
-__ Assumes nothing.
+-- A refusal, as the code has it.
+-- Assumes nothing.
 use Rattle.std.specs.Prelude.{ℕ}
 use Rattle.numbers.specs.declared.refusal.Refusal.{Refusal}
 
-__ by its number and its place
+-- by its number and its place
 abbrev pub refusal_at : ℕ → ℕ → Refusal
 refusal_at n p = record { number = n; place = p }

@@ -1,4 +1,4 @@
-__ Comparison: the laws of one answer for both tests, and of propositions by their records. Assumes nothing.
+-- Comparison: the laws of one answer for both tests, and of propositions by their records. Assumes nothing.
 use mathlib.Core.Path.{◌≡◌, refl, ap, ap₂, sym, subst, subst⁻¹, ◌∙◌}
 use mathlib.Core.Bool.{Bool, true, false, ◌&&◌, ◌||◌, not, beq, and-eq-true_iff, and_assoc, and-false}
 use mathlib.Core.List.{List}
@@ -23,7 +23,7 @@ use Rattle.prop.proofs.Heads.{link_self, quant_self, other_link, other_quant, sa
 use Rattle.prop.proofs.Views.{kind_constant, kind_linked, kind_quantified, kind_atomic, stands, at_linked, at_quantified}
 use Rattle.prop.proofs.Atoms.{params_self, atom_of, same_atoms}
 
-__ A PROPOSITION is equal to itself
+-- A PROPOSITION is equal to itself
 beq_self : (b : Bool) → beq b b ≡ true
 beq_self true = refl
 beq_self false = refl
@@ -42,7 +42,7 @@ same_self n (link o l A B) = rw (link_self l, same_self n A, same_self n B)
 same_self n (quant o q x D B) = rw (quant_self q, eq-eqb x x refl, eq-eqb D D refl, same_self n B) (ap (λ (b : Bool). b && true) (or_one (not n)))
 same_self n (atom o p xs) = rw (eq-eqb p p refl, params_self xs)
 
-__ WHAT IS EQUAL IS ALPHA-EQUAL
+-- WHAT IS EQUAL IS ALPHA-EQUAL
 and_weaker : (a b c d : Bool) → (a ≡ true → c ≡ true) → (b ≡ true → d ≡ true) → (a && b) ≡ true → (c && d) ≡ true
 and_weaker a b c d f g e = let h = (and-eq-true_iff a b).0 e in (and-eq-true_iff c d).1 (f h.0, g h.1)
 
@@ -76,7 +76,7 @@ eq_weaker (prop P) (datatype E) e = e
 eq_weaker (datatype D) (prop Q) e = e
 eq_weaker (datatype D) (datatype E) e = e
 
-__ AN ANSWER taken apart
+-- AN ANSWER taken apart
 alpha_is : (e a : Bool) → (e ≡ true → a ≡ true) → is_alpha (compared e a) ≡ a
 unfolding compared
 alpha_is true a h = sym (h refl)
@@ -86,7 +86,7 @@ alpha_is false false h = refl
 pub alpha_types : (c : Compared) (S T : Ty) → c ≡ compared_types S T → is_alpha c ≡ alpha S T
 alpha_types c S T e = ap (λ (c : Compared). is_alpha c) e ∙ alpha_is (eq S T) (alpha S T) (eq_weaker S T)
 
-__ `atoms` and `binders`
+-- `atoms` and `binders`
 pub atoms_yes : (x : Bool) → x ≡ true → Equal ≡ compared x x
 unfolding compared
 atoms_yes x e = rw e
@@ -111,7 +111,7 @@ module _ (x y D E : ℕ) where
   unfolding compared
   binders_alpha h e = rw (eq-eqb D E h, ne_eqb x y e)
 
-__ two parts
+-- two parts
 both_parts : (e a f b : Bool) → (e ≡ true → a ≡ true) → (f ≡ true → b ≡ true) → both (compared e a) (compared f b) ≡ compared (e && f) (a && b)
 unfolding compared
 both_parts true a f b h g = rw (h refl)
@@ -120,7 +120,7 @@ both_parts false true false true h g = refl
 both_parts false true false false h g = refl
 both_parts false false f b h g = refl
 
-__ PROPOSITIONS OF TWO KINDS differ
+-- PROPOSITIONS OF TWO KINDS differ
 other_constant : (a b : Bool) → (constant a ≡ constant b → ⊥) → beq a b ≡ false
 other_constant true true h = absurd (h refl)
 other_constant true false h = refl
@@ -167,12 +167,12 @@ module _ (n : Bool) (tables i j : ℕ) (sub : ℕ → Prop) (r s : Record) where
   kinds_apart atomic strange x y h = absurd (y refl)
   kinds_apart strange L x y h = absurd (x refl)
 
-__ `compare`, in the order of its code
+-- `compare`, in the order of its code
 module _ (w : List ℕ) (c a b : ℕ) (ok : Arena w c) (ac : a < c) (bc : b < c) where
   abbrev answer : ℕ → ℕ → ℕ → Compared
   answer tables m n = compared_props (room_at tables w m) (room_at tables w n)
 
-  __ both tests fail, or both hold
+  -- both tests fail, or both hold
   no_answer : (tables : ℕ) → ((n : Bool) → same n (room_at tables w a) (room_at tables w b) ≡ false) → Apart ≡ answer tables a b
   unfolding compared
   no_answer tables e = sym (ap₂ compared (e true) (e false))
@@ -185,94 +185,94 @@ module _ (w : List ℕ) (c a b : ℕ) (ok : Arena w c) (ac : a < c) (bc : b < c)
   cmp_self e tables = yes_answer tables (ap (λ (x : ℕ). same true (room_at tables w a) (room_at tables w x)) (sym e) ∙ same_self true (room_at tables w a))
 
   module _ (r : Record) (er : r ≡ record_at w a) (s : Record) (es : s ≡ record_at w b) where
-    known-a : prop_kind r.kind ≡ strange → ⊥
-    known-a h = not_strange (ok.each a ac) (ap (λ (x : Record). prop_kind x.kind) (sym er) ∙ h)
+    known_a : prop_kind r.kind ≡ strange → ⊥
+    known_a h = not_strange (ok.each a ac) (ap (λ (x : Record). prop_kind x.kind) (sym er) ∙ h)
 
-    known-b : prop_kind s.kind ≡ strange → ⊥
-    known-b h = not_strange (ok.each b bc) (ap (λ (x : Record). prop_kind x.kind) (sym es) ∙ h)
+    known_b : prop_kind s.kind ≡ strange → ⊥
+    known_b h = not_strange (ok.each b bc) (ap (λ (x : Record). prop_kind x.kind) (sym es) ∙ h)
 
     laid : (K L : PropKind) → prop_kind r.kind ≡ K → prop_kind s.kind ≡ L → (n : Bool) (tables : ℕ)
         → same n (room_at tables w a) (room_at tables w b) ≡ same n (node tables a (room_at tables w) K r) (node tables b (room_at tables w) L s)
     laid K L eK eL n tables = ap₂ (same n) (stands w c a ok ac r er K eK tables) (stands w c b ok bc s es L eL tables)
 
-    pub cmp-kinds : (r.kind ≡ s.kind → ⊥) → (tables : ℕ) → Apart ≡ answer tables a b
-    cmp-kinds h tables =
+    pub cmp_kinds : (r.kind ≡ s.kind → ⊥) → (tables : ℕ) → Apart ≡ answer tables a b
+    cmp_kinds h tables =
         no_answer tables
         (λ n. laid (prop_kind r.kind) (prop_kind s.kind) refl refl n tables
-        ∙ kinds_apart n tables a b (room_at tables w) r s (prop_kind r.kind) (prop_kind s.kind) known-a known-b
-        (λ e. h (same_number r.kind s.kind (prop_kind s.kind) known-b e refl)))
+        ∙ kinds_apart n tables a b (room_at tables w) r s (prop_kind r.kind) (prop_kind s.kind) known_a known_b
+        (λ e. h (same_number r.kind s.kind (prop_kind s.kind) known_b e refl)))
 
     module _ (e : r.kind ≡ s.kind) where
       laid_same : (K : PropKind) → prop_kind r.kind ≡ K → (n : Bool) (tables : ℕ)
           → same n (room_at tables w a) (room_at tables w b) ≡ same n (node tables a (room_at tables w) K r) (node tables b (room_at tables w) K s)
       laid_same K eK = laid K K eK (ap prop_kind (sym e) ∙ eK)
 
-      pub cmp-constant : r.kind < 2 → (tables : ℕ) → Equal ≡ answer tables a b
+      pub cmp_constant : r.kind < 2 → (tables : ℕ) → Equal ≡ answer tables a b
       unfolding node same
-      cmp-constant h tables = let v = kind_constant r.kind h in yes_answer tables (laid_same (constant v.0) v.1 true tables ∙ beq_self v.0)
+      cmp_constant h tables = let v = kind_constant r.kind h in yes_answer tables (laid_same (constant v.0) v.1 true tables ∙ beq_self v.0)
 
-      __ two parts
+      -- two parts
       module _ (lo : 2 ≤ r.kind) (hi : r.kind < 5) where
-        pub cmp-first-in : s.a < c
-        cmp-first-in = omega (arith, (at_linked w c b ok bc s es (omega arith) (omega arith)).1.first)
+        pub cmp_first_in : s.a < c
+        cmp_first_in = omega (arith, (at_linked w c b ok bc s es (omega arith) (omega arith)).1.first)
 
-        pub cmp-second-in : s.b < c
-        cmp-second-in = omega (arith, (at_linked w c b ok bc s es (omega arith) (omega arith)).1.second)
+        pub cmp_second_in : s.b < c
+        cmp_second_in = omega (arith, (at_linked w c b ok bc s es (omega arith) (omega arith)).1.second)
 
         by_parts : (n : Bool) (tables : ℕ)
             → same n (room_at tables w a) (room_at tables w b) ≡ (same n (room_at tables w r.a) (room_at tables w s.a) && same n (room_at tables w r.b) (room_at tables w s.b))
         by_parts n tables = let v = kind_linked r.kind lo hi in laid_same (linked v.0) v.1 n tables ∙ links_as n tables a b (room_at tables w) r s v.0
 
-        answer-parts : (tables : ℕ) → answer tables a b ≡ both (answer tables r.a s.a) (answer tables r.b s.b)
-        answer-parts tables =
+        answer_parts : (tables : ℕ) → answer tables a b ≡ both (answer tables r.a s.a) (answer tables r.b s.b)
+        answer_parts tables =
             ap₂ compared (by_parts true tables) (by_parts false tables)
             ∙ sym (both_parts _ _ _ _ (same_weaker (room_at tables w r.a) (room_at tables w s.a)) (same_weaker (room_at tables w r.b) (room_at tables w s.b)))
 
         module _ (u : Compared) (eu : (tables : ℕ) → u ≡ answer tables r.a s.a) where
-          pub cmp-first-apart : u ≡ Apart → (tables : ℕ) → u ≡ answer tables a b
-          cmp-first-apart h tables = h ∙ sym (answer-parts tables ∙ ap (λ (x : Compared). both x (answer tables r.b s.b)) (sym (eu tables) ∙ h))
+          pub cmp_first_apart : u ≡ Apart → (tables : ℕ) → u ≡ answer tables a b
+          cmp_first_apart h tables = h ∙ sym (answer_parts tables ∙ ap (λ (x : Compared). both x (answer tables r.b s.b)) (sym (eu tables) ∙ h))
 
-          pub cmp-link : (v : Compared) → ((tables : ℕ) → v ≡ answer tables r.b s.b) → (x : Compared) → x ≡ both u v → (tables : ℕ) → x ≡ answer tables a b
-          cmp-link v ev x ex tables = ex ∙ ap₂ both (eu tables) (ev tables) ∙ sym (answer-parts tables)
+          pub cmp_link : (v : Compared) → ((tables : ℕ) → v ≡ answer tables r.b s.b) → (x : Compared) → x ≡ both u v → (tables : ℕ) → x ≡ answer tables a b
+          cmp_link v ev x ex tables = ex ∙ ap₂ both (eu tables) (ev tables) ∙ sym (answer_parts tables)
 
-      __ a body
+      -- a body
       module _ (lo : 5 ≤ r.kind) (hi : r.kind < 7) where
-        pub cmp-body-in : s.c < c
-        cmp-body-in = omega (arith, (at_quantified w c b ok bc s es (omega arith) (omega arith)).1.under)
+        pub cmp_body_in : s.c < c
+        cmp_body_in = omega (arith, (at_quantified w c b ok bc s es (omega arith) (omega arith)).1.under)
 
-        by-body : (n : Bool) (tables : ℕ)
+        by_body : (n : Bool) (tables : ℕ)
             → same n (room_at tables w a) (room_at tables w b)
             ≡ ((not n || eqb r.a s.a) && (eqb r.b s.b && same n (room_at tables w r.c) (room_at tables w s.c)))
-        by-body n tables = let v = kind_quantified r.kind lo hi in laid_same (quantified v.0) v.1 n tables ∙ quants_as n tables a b (room_at tables w) r s v.0
+        by_body n tables = let v = kind_quantified r.kind lo hi in laid_same (quantified v.0) v.1 n tables ∙ quants_as n tables a b (room_at tables w) r s v.0
 
-        answer-body : (tables : ℕ)
+        answer_body : (tables : ℕ)
             → answer tables a b ≡ both (compared (eqb r.a s.a && eqb r.b s.b) (eqb r.b s.b)) (answer tables r.c s.c)
-        answer-body tables =
-            ap₂ compared (by-body true tables ∙ sym (and_assoc (eqb r.a s.a) (eqb r.b s.b) _)) (by-body false tables)
+        answer_body tables =
+            ap₂ compared (by_body true tables ∙ sym (and_assoc (eqb r.a s.a) (eqb r.b s.b) _)) (by_body false tables)
             ∙ sym (both_parts _ _ _ _ (λ h. ((and-eq-true_iff (eqb r.a s.a) (eqb r.b s.b)).0 h).1) (same_weaker (room_at tables w r.c) (room_at tables w s.c)))
 
         module _ (u : Compared) (eu : u ≡ compared (eqb r.a s.a && eqb r.b s.b) (eqb r.b s.b)) where
-          pub cmp-binder-apart : u ≡ Apart → (tables : ℕ) → u ≡ answer tables a b
-          cmp-binder-apart h tables = h ∙ sym (answer-body tables ∙ ap (λ (x : Compared). both x (answer tables r.c s.c)) (sym eu ∙ h))
+          pub cmp_binder_apart : u ≡ Apart → (tables : ℕ) → u ≡ answer tables a b
+          cmp_binder_apart h tables = h ∙ sym (answer_body tables ∙ ap (λ (x : Compared). both x (answer tables r.c s.c)) (sym eu ∙ h))
 
-          pub cmp-quant : (v : Compared) → ((tables : ℕ) → v ≡ answer tables r.c s.c) → (x : Compared) → x ≡ both u v → (tables : ℕ) → x ≡ answer tables a b
-          cmp-quant v ev x ex tables = ex ∙ ap₂ both eu (ev tables) ∙ sym (answer-body tables)
+          pub cmp_quant : (v : Compared) → ((tables : ℕ) → v ≡ answer tables r.c s.c) → (x : Compared) → x ≡ both u v → (tables : ℕ) → x ≡ answer tables a b
+          cmp_quant v ev x ex tables = ex ∙ ap₂ both eu (ev tables) ∙ sym (answer_body tables)
 
-      __ atoms
-      pub cmp-atoms : 7 ≤ r.kind → (u : Compared) → u ≡ compared (same_fields r s) (same_fields r s) → (tables : ℕ) → u ≡ answer tables a b
-      cmp-atoms lo u eu tables = eu ∙ sym (ap₂ compared (by-fields true) (by-fields false))
+      -- atoms
+      pub cmp_atoms : 7 ≤ r.kind → (u : Compared) → u ≡ compared (same_fields r s) (same_fields r s) → (tables : ℕ) → u ≡ answer tables a b
+      cmp_atoms lo u eu tables = eu ∙ sym (ap₂ compared (by_fields true) (by_fields false))
         where
-          atomic-r : prop_kind r.kind ≡ atomic
-          atomic-r = kind_atomic r.kind lo (subst⁻¹ (λ (z : Record). z.kind < 8) er (kind_known (ok.each a ac)))
+          atomic_r : prop_kind r.kind ≡ atomic
+          atomic_r = kind_atomic r.kind lo (subst⁻¹ (λ (z : Record). z.kind < 8) er (kind_known (ok.each a ac)))
 
-          by-fields : (n : Bool) → same n (room_at tables w a) (room_at tables w b) ≡ same_fields r s
-          by-fields n =
-              laid_same atomic atomic-r n tables
+          by_fields : (n : Bool) → same n (room_at tables w a) (room_at tables w b) ≡ same_fields r s
+          by_fields n =
+              laid_same atomic atomic_r n tables
               ∙ atoms_as n tables a b (room_at tables w) r s
-              ∙ sym (same_atoms r s (atom_of r atomic-r (subst⁻¹ (λ (z : Record). room_form z ≡ true) er (ok.each a ac).form))
-              (atom_of s (ap prop_kind (sym e) ∙ atomic-r) (subst⁻¹ (λ (z : Record). room_form z ≡ true) es (ok.each b bc).form)))
+              ∙ sym (same_atoms r s (atom_of r atomic_r (subst⁻¹ (λ (z : Record). room_form z ≡ true) er (ok.each a ac).form))
+              (atom_of s (ap prop_kind (sym e) ∙ atomic_r) (subst⁻¹ (λ (z : Record). room_form z ≡ true) es (ok.each b bc).form)))
 
-__ `compare_types`
+-- `compare_types`
 pub type_in : (c : ℕ) (S : Sort) (n : Number) → S ≡ Proposition n → TypeIn c S → n.0 < c
 type_in c S n e h = subst (TypeIn c) e h
 
@@ -298,6 +298,6 @@ module _ (w : List ℕ) (S T : Sort) where
     unfolding eq alpha same_ty compared
     types_same h tables = rw (e, f, eq-eqb x.0 y.0 h)
 
-    pub types-apart : (x.0 ≡ y.0 → ⊥) → (tables : ℕ) → Apart ≡ types tables
+    pub types_apart : (x.0 ≡ y.0 → ⊥) → (tables : ℕ) → Apart ≡ types tables
     unfolding eq alpha same_ty compared
-    types-apart h tables = rw (e, f, ne_eqb x.0 y.0 h)
+    types_apart h tables = rw (e, f, ne_eqb x.0 y.0 h)

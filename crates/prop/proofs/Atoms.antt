@@ -1,5 +1,5 @@
-__ Atoms' records: what their form says, and that records that are the same field by field, and no others, have the same parameters.
-__ Assumes nothing.
+-- Atoms' records: what their form says, and that records that are the same field by field, and no others, have the same parameters.
+-- Assumes nothing.
 use mathlib.Core.Path.{◌≡◌, refl, ap, sym, subst, subst⁻¹, ◌∙◌}
 use mathlib.Core.Bool.{Bool, true, false, ◌&&◌, false≢true, and-eq-true_iff}
 use mathlib.Core.List.{List, [], ◌∷◌}
@@ -17,7 +17,7 @@ use Rattle.layout.specs.Form.{fits, prop_shape, in_prop_shape, prop_form}
 use Rattle.prop.specs.Room.{param, kind_0, kind_1, kind_2, kind_3, params, kinds_fit, without_kinds, form_as, room_form}
 use Rattle.prop.specs.Compare.{same_fields}
 
-__ THE FORM OF AN ATOM: its kinds are known ones, and from its count on kinds and parameters are zero
+-- THE FORM OF AN ATOM: its kinds are known ones, and from its count on kinds and parameters are zero
 pub record Atom (r : Record) : Type 0 where
   pub few : r.count ≤ 4
   pub bare : r.c ≡ 0
@@ -69,7 +69,7 @@ atom_of r K e =
       rest_3 = unused 3 n (p 3) t₂.1;
     }
 
-__ and back
+-- and back
 pub join : (a b : Bool) → a ≡ true → b ≡ true → (a && b) ≡ true
 join a b e f = (and-eq-true_iff a b).1 (e, f)
 
@@ -97,7 +97,7 @@ form_of q K a =
     subst⁻¹ (λ (K : PropKind). form_as K q ≡ true) K
     (join _ _ kinds (subst⁻¹ (λ (K : PropKind). in_prop_shape (prop_shape K) (without_kinds q) ≡ true) K shape))
 
-__ LISTS OF PARAMETERS that are the same
+-- LISTS OF PARAMETERS that are the same
 pub param_self : (x : Param) → same_param x x ≡ true
 unfolding same_param
 param_self (free x) = eq-eqb x x refl
@@ -116,7 +116,7 @@ same_length [] (y ∷ ys) e = absurd (false≢true e)
 same_length (x ∷ xs) [] e = absurd (false≢true e)
 same_length (x ∷ xs) (y ∷ ys) e = ap suc (same_length xs ys (split (same_param x y) (same_params xs ys) e).1)
 
-__ each parameter below the count
+-- each parameter below the count
 same_nth : (d : Param) (i n : ℕ) (xs ys : List Param) → same_params (take n xs) (take n ys) ≡ true → i < n → i < length xs → i < length ys → same_param (get_or xs i d) (get_or ys i d) ≡ true
 unfolding same_params
 same_nth d i zero xs ys e h a b = absurd (omega arith)
@@ -126,7 +126,7 @@ same_nth d zero (suc n) (x ∷ xs) (y ∷ ys) e h a b = (split (same_param x y) 
 same_nth d (suc i) (suc n) (x ∷ xs) (y ∷ ys) e h a b =
     same_nth d i n xs ys (split (same_param x y) (same_params (take n xs) (take n ys)) e).1 (omega arith) (omega arith) (omega arith)
 
-__ two parameters of known kinds
+-- two parameters of known kinds
 param_same : (k l x y : ℕ) → k < 3 → l < 3 → same_param (param k x) (param l y) ≡ true → (k ≡ l) × (x ≡ y)
 unfolding same_param param
 param_same zero zero x y a b e = (refl, eqb-true x y e)
@@ -139,7 +139,7 @@ param_same (suc (suc k)) zero x y a b e = absurd (false≢true e)
 param_same (suc (suc k)) (suc zero) x y a b e = absurd (false≢true e)
 param_same (suc (suc k)) (suc (suc l)) x y a b e = (omega arith, eqb-true x y e)
 
-__ a place of both: below the count a parameter, from there on nothing
+-- a place of both: below the count a parameter, from there on nothing
 place_same : (i n k l x y : ℕ) → k < 3 → l < 3 → (n ≤ i → k ≡ 0) → (n ≤ i → l ≡ 0) → (n ≤ i → x ≡ 0) → (n ≤ i → y ≡ 0)
     → (i < n → same_param (param k x) (param l y) ≡ true) → (k ≡ l) × (x ≡ y)
 place_same i n k l x y a b k₀ l₀ x₀ y₀ e = at (ltb i n) refl
@@ -148,7 +148,7 @@ place_same i n k l x y a b k₀ l₀ x₀ y₀ e = at (ltb i n) refl
     at true h = param_same k l x y a b (e (ltb-true i n h))
     at false h = let g = ltb-false i n h in (k₀ g ∙ sym (l₀ g), x₀ g ∙ sym (y₀ g))
 
-__ kinds past the count
+-- kinds past the count
 module _ (n b : ℕ) (h : b < 4 ^ n) where
   below_power : (i : ℕ) → n ≤ i → b < 4 ^ i
   below_power i l = omega (arith, pow-le-pow_right {n = 4} (omega arith) {i = n} {j = i} l)
@@ -165,7 +165,7 @@ module _ (n b : ℕ) (h : b < 4 ^ n) where
   pub none_3 : n ≤ 3 → kind_3 b ≡ 0
   none_3 l = omega (arith, below_power 3 l)
 
-__ the kinds make the field
+-- the kinds make the field
 step_4 : (b : ℕ) → b % 4 + 4 * (b / 4) ≡ b
 step_4 b = omega arith
 
@@ -177,7 +177,7 @@ kinds_make b h =
     let g : kind_1 b + 4 * (b / 16) ≡ b / 4 = ap (λ (q : ℕ). kind_1 b + 4 * q) (sym (div-div-eq-div-mul b 4 4)) ∙ step_4 (b / 4) in
     ap (λ (x : ℕ). kind_0 b + 4 * (kind_1 b + 4 * (kind_2 b + 4 * x))) e ∙ ap (λ (x : ℕ). kind_0 b + 4 * (kind_1 b + 4 * x)) f ∙ ap (λ (x : ℕ). kind_0 b + 4 * x) g ∙ step_4 b
 
-__ TWO ATOMS with the same parameters have the same fields
+-- TWO ATOMS with the same parameters have the same fields
 either : (a b : Bool) → (a ≡ true → b ≡ true) → (b ≡ true → a ≡ true) → a ≡ b
 either true b f g = sym (f refl)
 either false true f g = g refl
@@ -226,44 +226,44 @@ module _ (r s : Record) where
     unfolding params
     place_at i h l = same_nth (free 0) i r.count (four r) (four s) (rw (← count_same) at e) l (omega arith) (omega arith)
 
-    s-kinds : s.b < 4 ^ r.count
-    s-kinds = rw count_same at.kinds
+    s_kinds : s.b < 4 ^ r.count
+    s_kinds = rw count_same at.kinds
 
-    s-few : (i : ℕ) → r.count ≤ i → s.count ≤ i
-    s-few i h = omega (arith, count_same)
+    s_few : (i : ℕ) → r.count ≤ i → s.count ≤ i
+    s_few i h = omega (arith, count_same)
 
-    at-0 : (kind_0 r.b ≡ kind_0 s.b) × (get_or r.parameters 0 0 ≡ get_or s.parameters 0 0)
-    at-0 =
-        place_same 0 r.count _ _ _ _ ar.known_0 at.known_0 (none_0 r.count r.b ar.kinds) (none_0 r.count s.b s-kinds) ar.rest_0 (λ h. at.rest_0 (s-few 0 h))
+    at_0 : (kind_0 r.b ≡ kind_0 s.b) × (get_or r.parameters 0 0 ≡ get_or s.parameters 0 0)
+    at_0 =
+        place_same 0 r.count _ _ _ _ ar.known_0 at.known_0 (none_0 r.count r.b ar.kinds) (none_0 r.count s.b s_kinds) ar.rest_0 (λ h. at.rest_0 (s_few 0 h))
         (place_at 0 (omega arith))
 
     at_1 : (kind_1 r.b ≡ kind_1 s.b) × (get_or r.parameters 1 0 ≡ get_or s.parameters 1 0)
     at_1 =
-        place_same 1 r.count _ _ _ _ ar.known_1 at.known_1 (none_1 r.count r.b ar.kinds) (none_1 r.count s.b s-kinds) ar.rest_1 (λ h. at.rest_1 (s-few 1 h))
+        place_same 1 r.count _ _ _ _ ar.known_1 at.known_1 (none_1 r.count r.b ar.kinds) (none_1 r.count s.b s_kinds) ar.rest_1 (λ h. at.rest_1 (s_few 1 h))
         (place_at 1 (omega arith))
 
-    at-2 : (kind_2 r.b ≡ kind_2 s.b) × (get_or r.parameters 2 0 ≡ get_or s.parameters 2 0)
-    at-2 =
-        place_same 2 r.count _ _ _ _ ar.known_2 at.known_2 (none_2 r.count r.b ar.kinds) (none_2 r.count s.b s-kinds) ar.rest_2 (λ h. at.rest_2 (s-few 2 h))
+    at_2 : (kind_2 r.b ≡ kind_2 s.b) × (get_or r.parameters 2 0 ≡ get_or s.parameters 2 0)
+    at_2 =
+        place_same 2 r.count _ _ _ _ ar.known_2 at.known_2 (none_2 r.count r.b ar.kinds) (none_2 r.count s.b s_kinds) ar.rest_2 (λ h. at.rest_2 (s_few 2 h))
         (place_at 2 (omega arith))
 
-    at-3 : (kind_3 r.b ≡ kind_3 s.b) × (get_or r.parameters 3 0 ≡ get_or s.parameters 3 0)
-    at-3 =
-        place_same 3 r.count _ _ _ _ ar.known_3 at.known_3 (none_3 r.count r.b ar.kinds) (none_3 r.count s.b s-kinds) ar.rest_3 (λ h. at.rest_3 (s-few 3 h))
+    at_3 : (kind_3 r.b ≡ kind_3 s.b) × (get_or r.parameters 3 0 ≡ get_or s.parameters 3 0)
+    at_3 =
+        place_same 3 r.count _ _ _ _ ar.known_3 at.known_3 (none_3 r.count r.b ar.kinds) (none_3 r.count s.b s_kinds) ar.rest_3 (λ h. at.rest_3 (s_few 3 h))
         (place_at 3 (omega arith))
 
     small : (n b : ℕ) → n ≤ 4 → b < 4 ^ n → b < 256
     small n b l h = below_power n b h 4 l
 
-    kinds-same : r.b ≡ s.b
-    kinds-same =
+    kinds_same : r.b ≡ s.b
+    kinds_same =
         sym (kinds_make r.b (small r.count r.b ar.few ar.kinds))
-        ∙ (λ i. at-0.0 i + 4 * (at_1.0 i + 4 * (at-2.0 i + 4 * at-3.0 i)))
+        ∙ (λ i. at_0.0 i + 4 * (at_1.0 i + 4 * (at_2.0 i + 4 * at_3.0 i)))
         ∙ kinds_make s.b (small s.count s.b at.few at.kinds)
 
-    fields-of : r.a ≡ s.a → same_fields r s ≡ true
-    fields-of q =
-        rw (eq-eqb _ _ q, eq-eqb _ _ count_same, eq-eqb _ _ kinds-same, eq-eqb _ _ at-0.1, eq-eqb _ _ at_1.1, eq-eqb _ _ at-2.1, eq-eqb _ _ at-3.1)
+    fields_of : r.a ≡ s.a → same_fields r s ≡ true
+    fields_of q =
+        rw (eq-eqb _ _ q, eq-eqb _ _ count_same, eq-eqb _ _ kinds_same, eq-eqb _ _ at_0.1, eq-eqb _ _ at_1.1, eq-eqb _ _ at_2.1, eq-eqb _ _ at_3.1)
 
   pub same_atoms : Atom r → Atom s → same_fields r s ≡ (eqb r.a s.a && same_params (params r) (params s))
   same_atoms ar at = either (same_fields r s) (eqb r.a s.a && same_params (params r) (params s)) to from
@@ -272,4 +272,4 @@ module _ (r s : Record) where
       to e = let f = fields_params e in rw (eq-eqb _ _ f.0, ← f.1) (params_self (params r))
 
       from : (eqb r.a s.a && same_params (params r) (params s)) ≡ true → same_fields r s ≡ true
-      from e = let f = split (eqb r.a s.a) (same_params (params r) (params s)) e in fields-of ar at f.1 (eqb-true r.a s.a f.0)
+      from e = let f = split (eqb r.a s.a) (same_params (params r) (params s)) e in fields_of ar at f.1 (eqb-true r.a s.a f.0)

@@ -1,4 +1,4 @@
-__ Heads by their kinds' numbers, and what a rule does with a type that was taken apart. Assumes nothing.
+-- Heads by their kinds' numbers, and what a rule does with a type that was taken apart. Assumes nothing.
 use mathlib.Core.Path.{◌≡◌, refl, ap, sym, subst, subst⁻¹, ◌∙◌}
 use mathlib.Core.Bool.{Bool, true, false, cond}
 use mathlib.Core.List.{List}
@@ -20,7 +20,7 @@ use Rattle.prop.specs.Room.{origin, node, room_at, type_at, TypeIn, Arena}
 use Rattle.prop.specs.Head.{Split, SplitAs, Over, OverAs}
 use Rattle.prop.proofs.Rooms.{parts_under, body_under, not_strange, room_step}
 
-__ KINDS by their numbers
+-- KINDS by their numbers
 unfoldable pub number : PropKind → ℕ
 number (constant true) = 0
 number (constant false) = 1
@@ -44,7 +44,7 @@ kind_number (suc (suc (suc (suc (suc (suc zero)))))) h = refl
 kind_number (suc (suc (suc (suc (suc (suc (suc zero))))))) h = refl
 kind_number (suc (suc (suc (suc (suc (suc (suc (suc k)))))))) h = absurd (h refl)
 
-__ two known kinds that are the same have one number
+-- two known kinds that are the same have one number
 pub same_number : (j k : ℕ) (K : PropKind) → (K ≡ strange → ⊥) → prop_kind j ≡ K → prop_kind k ≡ K → j ≡ k
 same_number j k K h e f = sym (kind_number j (λ q. h (sym e ∙ q))) ∙ ap number (e ∙ sym f) ∙ kind_number k (λ q. h (sym f ∙ q))
 
@@ -54,7 +54,7 @@ link_known l e = let z : ◌≡◌ {A = ℕ} 0 1 = cc in omega arith
 quant_known : (q : Quant) → quantified q ≡ strange → ⊥
 quant_known q e = let z : ◌≡◌ {A = ℕ} 0 1 = cc in omega arith
 
-__ HEADS. Where the kind is another, so is the head
+-- HEADS. Where the kind is another, so is the head
 pub other_link : (l h : Link) → (linked h ≡ linked l → ⊥) → same_link l h ≡ false
 unfolding same_link
 other_link and and e = absurd (e refl)
@@ -87,22 +87,22 @@ quant_self ex = refl
 
 module _ (tables n : ℕ) (sub : ℕ → Prop) (r : Record) where
   module _ {m : Arity} (l : Link) (k : Prop → Prop → Prog m) (z : Prog m) where
-    no-link : (K : PropKind) → (K ≡ linked l → ⊥) → on_link l (prop (node tables n sub K r)) k z ≡ z
+    no_link : (K : PropKind) → (K ≡ linked l → ⊥) → on_link l (prop (node tables n sub K r)) k z ≡ z
     unfolding node on_link
-    no-link (constant b) e = refl
-    no-link (linked h) e = ap (λ (b : Bool). cond b (k (sub r.a) (sub r.b)) z) (other_link l h e)
-    no-link (quantified q) e = refl
-    no-link atomic e = refl
-    no-link strange e = refl
+    no_link (constant b) e = refl
+    no_link (linked h) e = ap (λ (b : Bool). cond b (k (sub r.a) (sub r.b)) z) (other_link l h e)
+    no_link (quantified q) e = refl
+    no_link atomic e = refl
+    no_link strange e = refl
 
   module _ {m : Arity} (q : Quant) (k : ℕ → ℕ → Prop → Prog m) (z : Prog m) where
-    no-quant : (K : PropKind) → (K ≡ quantified q → ⊥) → on_quant q (prop (node tables n sub K r)) k z ≡ z
+    no_quant : (K : PropKind) → (K ≡ quantified q → ⊥) → on_quant q (prop (node tables n sub K r)) k z ≡ z
     unfolding node on_quant
-    no-quant (constant b) e = refl
-    no-quant (linked h) e = refl
-    no-quant (quantified s) e = ap (λ (b : Bool). cond b (k r.a r.b (sub r.c)) z) (other_quant q s e)
-    no-quant atomic e = refl
-    no-quant strange e = refl
+    no_quant (constant b) e = refl
+    no_quant (linked h) e = refl
+    no_quant (quantified s) e = ap (λ (b : Bool). cond b (k r.a r.b (sub r.c)) z) (other_quant q s e)
+    no_quant atomic e = refl
+    no_quant strange e = refl
 
   is_truth : (K : PropKind) → eqb (number K) 0 ≡ same true (node tables n sub K r) (const made true)
   unfolding node number same
@@ -116,7 +116,7 @@ module _ (tables n : ℕ) (sub : ℕ → Prop) (r : Record) where
   is_truth atomic = refl
   is_truth strange = refl
 
-__ WHAT A RULE DOES with the parts
+-- WHAT A RULE DOES with the parts
 on_joined : {m : Arity} (l : Link) (k : Prop → Prop → Prog m) (z : Prog m) (P : Prop) (o : Origin) (A B : Prop) → P ≡ link o l A B
     → on_link l (prop P) k z ≡ k A B
 unfolding on_link
@@ -127,7 +127,7 @@ on_bound : {m : Arity} (q : Quant) (k : ℕ → ℕ → Prop → Prog m) (z : Pr
 unfolding on_quant
 on_bound q k z P o x D B e = ap (λ (P : Prop). on_quant q (prop P) k z) e ∙ ap (λ (b : Bool). cond b (k x D B) z) (quant_self q)
 
-__ number n stands for the link of what a and b stand for; for the quantifier over what m stands for. All have smaller numbers
+-- number n stands for the link of what a and b stand for; for the quantifier over what m stands for. All have smaller numbers
 pub record Joins (l : Link) (w : List ℕ) (n a b : ℕ) : Type 0 where
   pub first : a < n
   pub second : b < n
@@ -137,7 +137,7 @@ pub record Binds (q : Quant) (w : List ℕ) (n D m : ℕ) : Type 0 where
   pub under : m < n
   pub whole : (tables : ℕ) → room_at tables w n ≡ quant (origin tables n) q (record_at w n).a D (room_at tables w m)
 
-__ A NUMBER TAKEN APART, from its record
+-- A NUMBER TAKEN APART, from its record
 module _ (w : List ℕ) (c n : ℕ) (ok : Arena w c) (k : n < c) (r : Record) (er : r ≡ record_at w n) where
   abbrev kind_here : PropKind
   kind_here = prop_kind (record_at w n).kind
@@ -164,7 +164,7 @@ module _ (w : List ℕ) (c n : ℕ) (ok : Arena w c) (k : n < c) (r : Record) (e
       → on_link l (prop (room_at tables w n)) f z ≡ z
   head_no_link m e l q tables f z =
       ap (λ (P : Prop). on_link l (prop P) f z) (room_step ok tables n k)
-      ∙ no-link tables n (room_at tables w) (record_at w n) l f z kind_here (not_kind m (linked l) e (link_known l) q)
+      ∙ no_link tables n (room_at tables w) (record_at w n) l f z kind_here (not_kind m (linked l) e (link_known l) q)
 
   pub head_binds : (m : ℕ) → r.kind ≡ m → (q : Quant) → prop_kind m ≡ quantified q → Binds q w n r.b r.c
   unfolding node
@@ -180,7 +180,7 @@ module _ (w : List ℕ) (c n : ℕ) (ok : Arena w c) (k : n < c) (r : Record) (e
       → on_quant q (prop (room_at tables w n)) f z ≡ z
   head_no_quant m e q h tables f z =
       ap (λ (P : Prop). on_quant q (prop P) f z) (room_step ok tables n k)
-      ∙ no-quant tables n (room_at tables w) (record_at w n) q f z kind_here (not_kind m (quantified q) e (quant_known q) h)
+      ∙ no_quant tables n (room_at tables w) (record_at w n) q f z kind_here (not_kind m (quantified q) e (quant_known q) h)
 
   head_truth : (tables : ℕ) → eqb r.kind 0 ≡ same true (room_at tables w n) (const made true)
   head_truth tables =
@@ -189,7 +189,7 @@ module _ (w : List ℕ) (c n : ℕ) (ok : Arena w c) (k : n < c) (r : Record) (e
       ∙ is_truth tables n (room_at tables w) (record_at w n) kind_here
       ∙ ap (λ (P : Prop). same true P (const made true)) (sym (room_step ok tables n k))
 
-__ A TYPE TAKEN APART, as `head` does it: a proposition as its number is; a datatype has no parts
+-- A TYPE TAKEN APART, as `head` does it: a proposition as its number is; a datatype has no parts
 pub prop_in : (c : ℕ) (T : Sort) (n : Number) → T ≡ Proposition n → TypeIn c T → n.0 < c
 prop_in c T n e h = subst (TypeIn c) e h
 
@@ -198,8 +198,8 @@ module _ (w : List ℕ) (c : ℕ) (T : Sort) (n : Number) (e : T ≡ Proposition
   among = prop_in c T n e i
 
   module _ (l : Link) (q : prop_kind m ≡ linked l) where
-    pub split-both : r.kind ≡ m → SplitAs l w c T (two.Both (record { 0 = r.a }) (record { 0 = r.b }))
-    split-both h =
+    pub split_both : r.kind ≡ m → SplitAs l w c T (two.Both (record { 0 = r.a }) (record { 0 = r.b }))
+    split_both h =
         let j = head_joins w c n.0 ok among r er m h l q in
         subst⁻¹ (λ (T : Sort). Split l w c T r.a r.b) e
         record {
@@ -208,8 +208,8 @@ module _ (w : List ℕ) (c : ℕ) (T : Sort) (n : Number) (e : T ≡ Proposition
           goes = λ tables a f z. on_joined l f z _ _ _ _ (j.whole tables);
         }
 
-    pub split-other : (r.kind ≡ m → ⊥) → SplitAs l w c T two.Other
-    split-other h =
+    pub split_other : (r.kind ≡ m → ⊥) → SplitAs l w c T two.Other
+    split_other h =
         subst⁻¹ (λ (T : Sort). SplitAs l w c T two.Other) e (λ tables a f z. head_no_link w c n.0 ok among r er m h l q tables f z)
 
   module _ (l : Quant) (q : prop_kind m ≡ quantified l) where
@@ -223,8 +223,8 @@ module _ (w : List ℕ) (c : ℕ) (T : Sort) (n : Number) (e : T ≡ Proposition
           goes = λ tables a f z. on_bound l f z _ _ _ _ _ (j.whole tables);
         }
 
-    pub over-other : (r.kind ≡ m → ⊥) → OverAs l w c T one.Other
-    over-other h =
+    pub over_other : (r.kind ≡ m → ⊥) → OverAs l w c T one.Other
+    over_other h =
         subst⁻¹ (λ (T : Sort). OverAs l w c T one.Other) e (λ tables a f z. head_no_quant w c n.0 ok among r er m h l q tables f z)
 
 pub truth_prop : (w : List ℕ) (c : ℕ) (T : Sort) (n : Number) → T ≡ Proposition n → Arena w c → TypeIn c T → (r : Record) → r ≡ record_at w n.0

@@ -1,4 +1,4 @@
-__ What the proofs of several functions use.
+-- What the proofs of several functions use.
 pub mod Rooms
 pub mod Heads
 pub mod Views

@@ -1,4 +1,4 @@
-__ An identifier occurs in an atom, or in a part. Assumes nothing.
+-- An identifier occurs in an atom, or in a part. Assumes nothing.
 use mathlib.Core.Path.{◌≡◌, refl, ap, ap₂, sym, ◌∙◌}
 use mathlib.Core.Bool.{Bool, true, false, ◌&&◌, ◌||◌, not}
 use mathlib.Core.List.{List}
@@ -22,7 +22,7 @@ pub not_not : (a : Bool) → not (not a) ≡ a
 not_not true = refl
 not_not false = refl
 
-__ A PLACE holds an identifier, an atom holds it in one of its places
+-- A PLACE holds an identifier, an atom holds it in one of its places
 module _ (s : ℕ) where
   is_it : (k x : ℕ) → (eqb k 1 && eqb x s) ≡ not (other s (param k x))
   unfolding param other
@@ -56,7 +56,7 @@ module _ (s : ℕ) where
       ∙ sym (not_and (p 0) (p 1 && (p 2 && p 3)))
       ∙ ap not (each_place (other s) r)
 
-__ a test that does not ask how deep a parameter stands
+-- a test that does not ask how deep a parameter stands
 pub each_deep : (t : Param → Bool) (d e : ℕ) (P : Prop) → each (λ i. t) d P ≡ each (λ i. t) e P
 unfolding each
 each_deep t d e (const o b) = refl
@@ -64,7 +64,7 @@ each_deep t d e (link o l A B) = ap₂ ◌&&◌ (each_deep t d e A) (each_deep t
 each_deep t d e (quant o q x D B) = each_deep t (suc d) (suc e) B
 each_deep t d e (atom o p xs) = refl
 
-__ `holds`, in the order of its code
+-- `holds`, in the order of its code
 module _ (w : List ℕ) (c n s : ℕ) (ok : Arena w c) (k : n < c) (r : Record) (er : r ≡ record_at w n) where
   abbrev holds_at : ℕ → ℕ → Bool
   holds_at tables m = holds s (room_at tables w m)
@@ -88,8 +88,8 @@ module _ (w : List ℕ) (c n s : ℕ) (ok : Arena w c) (k : n < c) (r : Record) 
       ∙ not_and (each (λ d. other s) 0 (room_at tables w r.a)) (each (λ d. other s) 0 (room_at tables w r.b))
 
   module _ (lo : 2 ≤ r.kind) (hi : r.kind < 5) (b : Bool) (eb : (tables : ℕ) → b ≡ holds_at tables r.a) where
-    pub holds-first : b ≡ true → (tables : ℕ) → true ≡ holds_at tables n
-    holds-first e tables = sym (holds_link lo hi tables ∙ ap (λ (x : Bool). x || holds_at tables r.b) (sym (eb tables) ∙ e))
+    pub holds_first : b ≡ true → (tables : ℕ) → true ≡ holds_at tables n
+    holds_first e tables = sym (holds_link lo hi tables ∙ ap (λ (x : Bool). x || holds_at tables r.b) (sym (eb tables) ∙ e))
 
-    pub holds-second : b ≡ false → (d : Bool) → ((tables : ℕ) → d ≡ holds_at tables r.b) → (tables : ℕ) → d ≡ holds_at tables n
-    holds-second e d ed tables = ed tables ∙ sym (holds_link lo hi tables ∙ ap (λ (x : Bool). x || holds_at tables r.b) (sym (eb tables) ∙ e))
+    pub holds_second : b ≡ false → (d : Bool) → ((tables : ℕ) → d ≡ holds_at tables r.b) → (tables : ℕ) → d ≡ holds_at tables n
+    holds_second e d ed tables = ed tables ∙ sym (holds_link lo hi tables ∙ ap (λ (x : Bool). x || holds_at tables r.b) (sym (eb tables) ∙ e))

@@ -1,4 +1,4 @@
-__ An atom's four places: read, tested, changed and written. Assumes nothing.
+-- An atom's four places: read, tested, changed and written. Assumes nothing.
 use mathlib.Core.Path.{◌≡◌, refl, ap, sym, subst⁻¹, ◌∙◌}
 use mathlib.Core.Bool.{Bool, true, false, ◌&&◌, ◌||◌, not, false≢true, and-true}
 use mathlib.Core.List.{List, [], ◌∷◌, map}
@@ -16,7 +16,7 @@ use Rattle.prop.specs.Room.{param, kind_0, kind_1, kind_2, kind_3, params}
 use Rattle.prop.specs.Atom.{coded, place, kind_at, number_at, parameter_at, passes, becomes, kind_in, number_in, with_parameters}
 use Rattle.prop.proofs.Atoms.{Atom}
 
-__ `kind_at` and `number_at`, in the order of their code
+-- `kind_at` and `number_at`, in the order of their code
 module _ (r : Record) (i : ℕ) where
   pub kind_at_0 : i ≡ 0 → kind_0 r.b ≡ kind_at r i
   kind_at_0 e = rw e
@@ -39,38 +39,38 @@ number_at_3 r (suc zero) a b c = absurd (b refl)
 number_at_3 r (suc (suc zero)) a b c = absurd (c refl)
 number_at_3 r (suc (suc (suc i))) a b c = refl
 
-__ `parameter_at`
+-- `parameter_at`
 module _ (r : Record) (i : ℕ) where
   pub at_unused : r.count ≤ i → Unused ≡ parameter_at r i
   unfolding parameter_at
   at_unused h = sym (ap (λ (u : Bool). place u (param (kind_at r i) (number_at r i))) (le-ltb i r.count h))
 
   module _ (u : i < r.count) (k x : ℕ) (ek : k ≡ kind_at r i) (ex : x ≡ number_at r i) where
-    at-used : (y : Param) → param k x ≡ y → coded y ≡ parameter_at r i
+    at_used : (y : Param) → param k x ≡ y → coded y ≡ parameter_at r i
     unfolding parameter_at
-    at-used y e =
+    at_used y e =
         ap (λ (y : Param). coded y) (sym e)
         ∙ (λ j. coded (param (ek j) (ex j)))
         ∙ sym (ap (λ (u : Bool). place u (param (kind_at r i) (number_at r i))) (lt-ltb i r.count u))
 
-    pub at-free : k ≡ 0 → Free (record { 0 = x }) ≡ parameter_at r i
+    pub at_free : k ≡ 0 → Free (record { 0 = x }) ≡ parameter_at r i
     unfolding param
-    at-free e = at-used (free x) (rw e)
+    at_free e = at_used (free x) (rw e)
 
-    pub at-identifier : k ≡ 1 → Identifier (record { 0 = x }) ≡ parameter_at r i
+    pub at_identifier : k ≡ 1 → Identifier (record { 0 = x }) ≡ parameter_at r i
     unfolding param
-    at-identifier e = at-used (ser x) (rw e)
+    at_identifier e = at_used (ser x) (rw e)
 
     pub at_bound : (k ≡ 0 → ⊥) → (k ≡ 1 → ⊥) → Bound x ≡ parameter_at r i
     unfolding param
-    at_bound a b = at-used (bound x) (go k a b)
+    at_bound a b = at_used (bound x) (go k a b)
       where
         go : (k : ℕ) → (k ≡ 0 → ⊥) → (k ≡ 1 → ⊥) → param k x ≡ bound x
         go zero a b = absurd (a refl)
         go (suc zero) a b = absurd (b refl)
         go (suc (suc k)) a b = refl
 
-__ `with_parameters`
+-- `with_parameters`
 pub writes : (r : Record) (p q s t : Parameter) (j k l m w x y z : ℕ)
     → (j ≡ kind_in p) × (j < 3) → (k ≡ kind_in q) × (k < 3) → (l ≡ kind_in s) × (l < 3) → (m ≡ kind_in t) × (m < 3)
     → w ≡ number_in p → x ≡ number_in q → y ≡ number_in s → z ≡ number_in t
@@ -86,7 +86,7 @@ writes r p q s t j k l m w x y z ej ek el em ew ex ey ez =
       parameters = ew i ∷ ex i ∷ ey i ∷ ez i ∷ [];
     }
 
-__ A TEST of all four places is one of the parameters
+-- A TEST of all four places is one of the parameters
 passes_place : (t : Param → Bool) (u : Bool) (x : Param) → passes t (place u x) ≡ (not u || t x)
 passes_place t true (free x) = refl
 passes_place t true (ser i) = refl
@@ -127,14 +127,14 @@ all_pass t r p q s u a b c d ep eq es eu ea eb ec ed =
     λ o p i e f. e ∙ ap (λ (p : Parameter). passes t p) f in
     (λ i. at a p 0 ea ep i && (at b q 1 eb eq i && (at c s 2 ec es i && at d u 3 ed eu i))) ∙ each_place t r
 
-__ A CHANGE of a place is one of its parameter
+-- A CHANGE of a place is one of its parameter
 becomes_place : (h : Param → Param) (u : Bool) (x : Param) → becomes h (place u x) ≡ place u (h x)
 becomes_place h true (free x) = refl
 becomes_place h true (ser i) = refl
 becomes_place h true (bound k) = refl
 becomes_place h false x = refl
 
-__ WRITTEN: the four kinds in one field, which has no more of them than there are parameters
+-- WRITTEN: the four kinds in one field, which has no more of them than there are parameters
 few_kinds : (n k l m o : ℕ) → n ≤ 4 → k < 3 → l < 3 → m < 3 → o < 3 → (n ≤ 0 → k ≡ 0) → (n ≤ 1 → l ≡ 0) → (n ≤ 2 → m ≡ 0) → (n ≤ 3 → o ≡ 0)
     → k + 4 * l + 16 * m + 64 * o < 4 ^ n
 few_kinds zero k l m o h a b c d e f g i = omega (arith, e (omega arith), f (omega arith), g (omega arith), i (omega arith))
@@ -163,7 +163,7 @@ kind_few (Identifier i) = omega arith
 kind_few (Bound k) = omega arith
 kind_few Unused = omega arith
 
-__ what is written reads back; past the count nothing is written
+-- what is written reads back; past the count nothing is written
 reads_back : (u : Bool) (x : Param) → u ≡ true → param (kind_in (place u x)) (number_in (place u x)) ≡ x
 unfolding param
 reads_back true (free x) e = refl
@@ -186,7 +186,7 @@ module _ (x y z v x' y' z' v' : Param) where
   take_same (suc (suc (suc (suc n)))) a b c d =
       rw (a (more 0 n (omega arith)), b (more 1 n (omega arith)), c (more 2 n (omega arith)), d (more 3 n (omega arith)))
 
-__ the atom r with these parameters for its own
+-- the atom r with these parameters for its own
 module _ (r : Record) (x y z v : Param) where
   abbrev at : ℕ → Param → Parameter
   at i x = place (ltb i r.count) x
@@ -238,7 +238,7 @@ module _ (r : Record) (x y z v : Param) where
       (λ u. ap (λ (k : ℕ). param k (number_in (at 2 z))) e₂ ∙ reads_back _ z u)
       (λ u. ap (λ (k : ℕ). param k (number_in (at 3 v))) e₃ ∙ reads_back _ v u)
 
-__ the atom r with its own parameters changed
+-- the atom r with its own parameters changed
 take_map : (h : Param → Param) (n : ℕ) (xs : List Param) → take n (map h xs) ≡ map h (take n xs)
 take_map h zero xs = refl
 take_map h (suc n) [] = refl

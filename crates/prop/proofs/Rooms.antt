@@ -1,4 +1,4 @@
-__ What a room of propositions stands for, one record at a time, and what stays when the room grows. Assumes nothing.
+-- What a room of propositions stands for, one record at a time, and what stays when the room grows. Assumes nothing.
 use mathlib.Core.Path.{◌≡◌, refl, ap, subst, subst⁻¹, ◌∙◌}
 use mathlib.Core.Bool.{true, false≢true}
 use mathlib.Core.List.{List, [], ◌∷◌}
@@ -21,7 +21,7 @@ use Rattle.layout.proofs.Strange.{strange_prop}
 use Rattle.table.proofs.Sums.{hit_here, hit_later, hit_ok}
 use Rattle.prop.specs.Room.{origin, node, room_within, room_at, type_at, TypeIn, form_as, room_form, Node, Arena}
 
-__ A RECORD'S CHILDREN, by its kind
+-- A RECORD'S CHILDREN, by its kind
 pub hit_parts : (h : Link) (K : PropKind) (r : Record) → K ≡ linked h
     → (0 < hits r.a (prop_children (prop_shape K).children r)) × (0 < hits r.b (prop_children (prop_shape K).children r))
 unfolding prop_shape prop_children
@@ -33,7 +33,7 @@ pub hit_body : (q : Quant) (K : PropKind) (r : Record) → K ≡ quantified q �
 unfolding prop_shape prop_children
 hit_body q K r e = subst⁻¹ (λ (K : PropKind). 0 < hits r.c (prop_children (prop_shape K).children r)) e (hit_here r.c [])
 
-__ ONE RECORD: its kind is known, and its children have smaller numbers
+-- ONE RECORD: its kind is known, and its children have smaller numbers
 module _ {w : List ℕ} {n : ℕ} (d : Node w n) where
   pub child_under : (m : ℕ) → 0 < hits m (prop_links (record_at w n)) → m < n
   child_under m x = ltb-true m n (hit_ok (λ m. ltb m n) m (prop_links (record_at w n)) d.links x)
@@ -53,7 +53,7 @@ module _ {w : List ℕ} {n : ℕ} (d : Node w n) where
   pub kind_known : (record_at w n).kind < 8
   kind_known = let h : 8 ≤ (record_at w n).kind → ⊥ = λ l. not_strange (strange_prop (record_at w n).kind l) in omega arith
 
-__ a record's reading asks only for its children's
+-- a record's reading asks only for its children's
 pub node_same : (tables n : ℕ) (sub sub' : ℕ → Prop) (K : PropKind) (r : Record) → ((m : ℕ) → 0 < hits m (prop_children (prop_shape K).children r) → sub m ≡ sub' m)
     → node tables n sub K r ≡ node tables n sub' K r
 unfolding node prop_children prop_shape
@@ -63,7 +63,7 @@ node_same tables n sub sub' (quantified q) r e = ap (quant (origin tables n) q r
 node_same tables n sub sub' atomic r e = refl
 node_same tables n sub sub' strange r e = refl
 
-__ A ROOM
+-- A ROOM
 module _ {w : List ℕ} {c : ℕ} (ok : Arena w c) where
   enough : (tables f g n : ℕ) → n < f → n < g → n < c → room_within f tables w n ≡ room_within g tables w n
   unfolding room_within
@@ -73,7 +73,7 @@ module _ {w : List ℕ} {c : ℕ} (ok : Arena w c) where
       node_same tables n (room_within f tables w) (room_within g tables w) (prop_kind (record_at w n).kind) (record_at w n)
       (λ m x. let u = child_under (ok.each n k) m x in enough tables f g m (omega arith) (omega arith) (omega arith))
 
-  __ a number stands for what its record says of what its children's numbers stand for
+  -- a number stands for what its record says of what its children's numbers stand for
   pub room_step : (tables n : ℕ) → n < c → room_at tables w n ≡ node tables n (room_at tables w) (prop_kind (record_at w n).kind) (record_at w n)
   unfolding room_at room_within
   room_step tables n k =
@@ -87,7 +87,7 @@ pub type_more : (c d : ℕ) (t : Sort) → c ≤ d → TypeIn c t → TypeIn d t
 type_more c d (Proposition n) h k = omega arith
 type_more c d (Datatype x) h k = tt
 
-__ A ROOM THAT KEEPS ITS FIRST c RECORDS keeps what they stand for
+-- A ROOM THAT KEEPS ITS FIRST c RECORDS keeps what they stand for
 module _ {old : List ℕ} (new : List ℕ) {c : ℕ} (ok : Arena old c) (same : Same c old new) where
   kept_within : (tables f n : ℕ) → n < c → room_within f tables new n ≡ room_within f tables old n
   unfolding room_within
@@ -113,7 +113,7 @@ module _ {old : List ℕ} (new : List ℕ) {c : ℕ} (ok : Arena old c) (same : 
         links = subst⁻¹ (λ (r : Record). all_links (λ m. ltb m n) (prop_links r) ≡ true) (same n k) d.links;
       }
 
-__ ONE RECORD MORE
+-- ONE RECORD MORE
 pub same_put : {old new : List ℕ} {c : ℕ} {r : Record} → Put old c r new → Same c old new
 same_put p m l = p.others m (omega arith)
 
@@ -133,7 +133,7 @@ module _ {old new : List ℕ} {c : ℕ} {r : Record} (ok : Arena old c) (p : Put
       at n (inl e) = subst⁻¹ (Node new) e node_put
       at n (inr l) = node_kept new ok (same_put p) n l
 
-  __ the new record stands for what it says of what its children stood for
+  -- the new record stands for what it says of what its children stood for
   pub room_put : 16 * c + 16 ≤ length old → (tables : ℕ) → room_at tables new c ≡ node tables c (room_at tables old) (prop_kind r.kind) r
   room_put h tables =
       room_step (arena_put h) tables c (omega arith)

@@ -1,4 +1,4 @@
-__ What a number stands for, from the range that its record's kind is in. Assumes nothing.
+-- What a number stands for, from the range that its record's kind is in. Assumes nothing.
 use mathlib.Core.Path.{◌≡◌, refl, ap, sym, subst⁻¹, ◌∙◌}
 use mathlib.Core.Bool.{Bool, true, false}
 use mathlib.Core.List.{List}
@@ -66,23 +66,23 @@ module _ (w : List ℕ) (c n : ℕ) (ok : Arena w c) (k : n < c) (r : Record) (e
   unfolding node
   at_atomic g = stands atomic (kind_atomic r.kind g (subst⁻¹ (λ (s : Record). s.kind < 8) er (kind_known (ok.each n k))))
 
-  __ its children, for a call: below the measure t, and in the room
+  -- its children, for a call: below the measure t, and in the room
   module _ (lo : 2 ≤ r.kind) (hi : r.kind < 5) where
     pub first_below : (t : ℕ) → n ≡ t → r.a < t
     first_below t e = omega (arith, (at_linked lo hi).1.first)
 
-    pub first-in : r.a < c
-    first-in = omega (arith, (at_linked lo hi).1.first)
+    pub first_in : r.a < c
+    first_in = omega (arith, (at_linked lo hi).1.first)
 
     pub second_below : (t : ℕ) → n ≡ t → r.b < t
     second_below t e = omega (arith, (at_linked lo hi).1.second)
 
-    pub second-in : r.b < c
-    second-in = omega (arith, (at_linked lo hi).1.second)
+    pub second_in : r.b < c
+    second_in = omega (arith, (at_linked lo hi).1.second)
 
   module _ (lo : 5 ≤ r.kind) (hi : r.kind < 7) where
     pub body_below : (t : ℕ) → n ≡ t → r.c < t
     body_below t e = omega (arith, (at_quantified lo hi).1.under)
 
-    pub body-in : r.c < c
-    body-in = omega (arith, (at_quantified lo hi).1.under)
+    pub body_in : r.c < c
+    body_in = omega (arith, (at_quantified lo hi).1.under)

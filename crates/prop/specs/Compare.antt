@@ -1,4 +1,4 @@
-__ Document 01, "The rules" (comparison): both tests of the rules in one answer. Assumes nothing.
+-- Document 01, "The rules" (comparison): both tests of the rules in one answer. Assumes nothing.
 use Rattle.std.specs.Prelude.{Bool, true, false, ◌&&◌, cond, eqb, get_or}
 use Rattle.numbers.specs.declared.record.Record.{Record}
 use Rattle.rules.specs.Prop.{Prop, Ty, same, eq, alpha}
@@ -14,13 +14,13 @@ compared_props P Q = compared (same true P Q) (same false P Q)
 abbrev pub compared_types : Ty → Ty → Compared
 compared_types S T = compared (eq S T) (alpha S T)
 
-__ what is equal is alpha-equal too
+-- what is equal is alpha-equal too
 abbrev pub is_alpha : Compared → Bool
 is_alpha Equal = true
 is_alpha Alpha = true
 is_alpha Apart = false
 
-__ two parts taken together
+-- two parts taken together
 abbrev pub both : Compared → Compared → Compared
 both Equal c = c
 both Alpha Equal = Alpha
@@ -28,7 +28,7 @@ both Alpha Alpha = Alpha
 both Alpha Apart = Apart
 both Apart c = Apart
 
-__ two atoms' records, field by field
+-- two atoms' records, field by field
 abbrev pub same_fields : Record → Record → Bool
 same_fields r s =
     eqb r.a s.a

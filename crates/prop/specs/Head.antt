@@ -1,4 +1,4 @@
-__ A type taken apart at its head: what the answers of `head` say of the rules' way of doing it. Assumes nothing.
+-- A type taken apart at its head: what the answers of `head` say of the rules' way of doing it. Assumes nothing.
 use Rattle.std.specs.Prelude.{◌≡◌, List, ℕ, ◌<◌}
 use Rattle.numbers.specs.declared.Sort.{Sort}
 use Rattle.rules.specs.Prop.{Link, and, or, imp, Quant, all, ex, Prop}
@@ -13,7 +13,7 @@ use Rattle.prop.specs.declared.head.Quantified.{Quantified}
 use Rattle.prop.specs.declared.head.Quantified.TheVariants as one
 use Rattle.prop.specs.Room.{room_at, type_at}
 
-__ the code's words for the rules' heads
+-- the code's words for the rules' heads
 abbrev pub link_of : LinkWord → Link
 link_of links.And = and
 link_of links.Or = or
@@ -23,7 +23,7 @@ abbrev pub quant_of : QuantWord → Quant
 quant_of quants.All = all
 quant_of quants.Ex = ex
 
-__ a program that asks for the parts goes on with these, or goes on without
+-- a program that asks for the parts goes on with these, or goes on without
 pub record Split (h : Link) (ps : List ℕ) (c : ℕ) (T : Sort) (a b : ℕ) : Type 0 where
   pub first : a < c
   pub second : b < c
@@ -36,7 +36,7 @@ abbrev pub SplitAs : Link → List ℕ → ℕ → Sort → Parts → Type 0
 SplitAs h ps c T (two.Both a b) = Split h ps c T a.0 b.0
 SplitAs h ps c T two.Other = Unsplit h ps T
 
-__ the same of a quantifier: the object's name, which no rule uses, the datatype, the body
+-- the same of a quantifier: the object's name, which no rule uses, the datatype, the body
 pub record Over (q : Quant) (ps : List ℕ) (c : ℕ) (T : Sort) (D m : ℕ) : Type 0 where
   pub object : ℕ
   pub body : m < c

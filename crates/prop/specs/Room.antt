@@ -1,6 +1,6 @@
-__ Document 01, "Tree, goals, filling": the propositions room. First come the table's records, behind them those that a run made; in an atom, b now says
-__ of what kind each parameter is. What a record number stands for, and what a room is whose first c records are propositions.
-__ Assumes nothing.
+-- Document 01, "Tree, goals, filling": the propositions room. First come the table's records, behind them those that a run made; in an atom, b now says
+-- of what kind each parameter is. What a record number stands for, and what a room is whose first c records are propositions.
+-- Assumes nothing.
 use Rattle.std.specs.Prelude.{◌≡◌, Bool, true, false, ◌&&◌, cond, List, [], ◌∷◌, ℕ, zero, suc, ◌*◌, ◌/◌, ◌%◌, ◌^◌, ◌<◌, ◌≤◌, length, get_or, take, ltb}
 use Rattle.numbers.specs.declared.Sort.{Sort}
 use Rattle.numbers.specs.declared.Sort.TheVariants.{Proposition, Datatype}
@@ -11,7 +11,7 @@ use Rattle.layout.specs.File.{PropKind, constant, linked, quantified, atomic, st
 use Rattle.layout.specs.Form.{prop_form}
 use Rattle.table.specs.Links.{all_links, prop_links}
 
-__ PARAMETERS: kinds 0 free name, 1 serial, 2 bound, two bits each, the first lowest
+-- PARAMETERS: kinds 0 free name, 1 serial, 2 bound, two bits each, the first lowest
 unfoldable pub param : ℕ → ℕ → Param
 param zero x = free x
 param (suc zero) x = ser x
@@ -38,11 +38,11 @@ params r =
     ∷ param (kind_3 r.b) (get_or r.parameters 3 0)
     ∷ [])
 
-__ the first `tables` records are the table's, the others were made
+-- the first `tables` records are the table's, the others were made
 unfoldable pub origin : (tables n : ℕ) → Origin
 origin tables n = cond (ltb n tables) (table n) made
 
-__ WHAT RECORD n STANDS FOR, from what its children stand for
+-- WHAT RECORD n STANDS FOR, from what its children stand for
 unfoldable pub node : (tables n : ℕ) → (ℕ → Prop) → PropKind → Record → Prop
 node tables n sub (constant b) r = const (origin tables n) b
 node tables n sub (linked h) r = link (origin tables n) h (sub r.a) (sub r.b)
@@ -54,7 +54,7 @@ unfoldable pub room_within : ℕ → ℕ → List ℕ → ℕ → Prop
 room_within zero tables w n = const made false
 room_within (suc f) tables w n = node tables n (room_within f tables w) (prop_kind (record_at w n).kind) (record_at w n)
 
-__ children have smaller numbers, so a depth of n + 1 is enough
+-- children have smaller numbers, so a depth of n + 1 is enough
 unfoldable pub room_at : ℕ → List ℕ → ℕ → Prop
 room_at tables w n = room_within (suc n) tables w n
 
@@ -62,12 +62,12 @@ abbrev pub type_at : ℕ → List ℕ → Sort → Ty
 type_at tables w (Proposition n) = prop (room_at tables w n.0)
 type_at tables w (Datatype d) = datatype d.0
 
-__ a type that stands for something among the first c records
+-- a type that stands for something among the first c records
 abbrev pub TypeIn : ℕ → Sort → Type 0
 TypeIn c (Proposition n) = n.0 < c
 TypeIn c (Datatype d) = Unit {0}
 
-__ A ROOM OF PROPOSITIONS: as in the file, unused fields are zero; an atom's kinds are known ones, and there are none past its parameters
+-- A ROOM OF PROPOSITIONS: as in the file, unused fields are zero; an atom's kinds are known ones, and there are none past its parameters
 unfoldable pub kinds_fit : Record → Bool
 kinds_fit r = ltb r.b (4 ^ r.count) && (ltb (kind_0 r.b) 3 && (ltb (kind_1 r.b) 3 && (ltb (kind_2 r.b) 3 && ltb (kind_3 r.b) 3)))
 

@@ -1,8 +1,8 @@
-__ A size counted with a budget. Assumes nothing.
+-- A size counted with a budget. Assumes nothing.
 use Rattle.std.specs.Prelude.{cond, ℕ, leb}
 use Rattle.prop.specs.declared.size.Nodes.{Nodes}
 use Rattle.prop.specs.declared.size.Nodes.TheVariants.{Within, Over}
 
-__ the size, where it is at most what is left
+-- the size, where it is at most what is left
 unfoldable pub counted : (size left : ℕ) → Nodes
 counted size left = cond (leb size left) (Within size) Over

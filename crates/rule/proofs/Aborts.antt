@@ -1,4 +1,4 @@
-__ Abort, piece by piece. Assumes nothing.
+-- Abort, piece by piece. Assumes nothing.
 use mathlib.Core.Path.{◌≡◌, refl, ap, sym, ◌∙◌}
 use mathlib.Core.Bool.{false}
 use mathlib.Core.List.{List, []}
@@ -28,13 +28,13 @@ use Rattle.step.specs.Contract.{Ready, Refuses, run_of}
 use Rattle.step.specs.Under.{Doing, kid_at}
 use Rattle.step.proofs.Doing.{doing_start, doing_step, doing_same, doing_stop}
 use Rattle.step.proofs.Moves.{MadeFor, GrownTo, made_for, made_goes, full_stops, making_left, making_made, making_serials}
-use Rattle.step.proofs.Terms.{single_begins, single_nodes, is-abort, abort-child}
+use Rattle.step.proofs.Terms.{single_begins, single_nodes, is_abort, abort_child}
 use Rattle.rule.specs.declared.next.Rule.{Rule}
 use Rattle.rule.specs.declared.next.Rest.TheVariants as left
 use Rattle.rule.specs.Going.{Asked, Resumed}
 use Rattle.rule.proofs.Going.{says, asks, answer_stands, turned}
 
-__ ITS FALSE is made, and the body is asked
+-- ITS FALSE is made, and the body is asked
 module _ {l : List ℕ} {R : Rooms} {k : Place} {st : State} (rd : Ready l R k.0 st) (wanted : Sort) (among : TypeIn (count_of l st) wanted) (kind : (term_record l k.0).kind ≡ 10)
     (count : ℕ) (ec : count ≡ count_of l st) (free : ℕ) (el : free + st.made ≡ limit) (ps : List ℕ) (o : Made) (is : ConstantIs false R.props count free ps o) where
   abbrev c₁ : ℕ
@@ -48,7 +48,7 @@ module _ {l : List ℕ} {R : Rooms} {k : Place} {st : State} (rd : Ready l R k.0
 
   begun : Doing l R k.0 (check A) st R (inner st) (make 1 k.0 (asking (prop (const made false)))) (kid_at l c₁, tt) 0 0 0
   unfolding single_step abort_step
-  begun = doing_start _ (kid_at l c₁, tt) rd (single_begins l k.0 R (check A) st Single.abort c₁ (is-abort rd.base.table rd.here kind))
+  begun = doing_start _ (kid_at l c₁, tt) rd (single_begins l k.0 R (check A) st Single.abort c₁ (is_abort rd.base.table rd.here kind))
 
   pub abort_full : o ≡ Full → (r : Refusal) → r ≡ record { number = 30; place = k.0 } → Refuses (run_of l R k.0 (check A) st) r
   abort_full q r er =
@@ -64,9 +64,9 @@ module _ {l : List ℕ} {R : Rooms} {k : Place} {st : State} (rd : Ready l R k.0
       asks rd among
       (doing_same (ap asking (sym makes.stands.means))
       (doing_step _ 0 begun (making_left R makes.making) (making_made makes.making) (making_serials makes.making) (made_goes makes k.0 _ (kid_at l c₁, tt))))
-      (omega arith) (omega (arith, single_nodes (is-abort rd.base.table rd.here kind))) refl (abort-child rd.base.table rd.here kind, tt) makes.stands.among
+      (omega arith) (omega (arith, single_nodes (is_abort rd.base.table rd.here kind))) refl (abort_child rd.base.table rd.here kind, tt) makes.stands.among
 
-__ ONLY OF A PROPOSITION
+-- ONLY OF A PROPOSITION
 module _ {l : List ℕ} {R₀ : Rooms} {f : Rule} {R : Rooms} {t : Sort} {s : State} (a : Resumed l R₀ f R left.Aborts t s) (found : Sort) (ef : found ≡ answer_of f.want t) where
   abbrev k : ℕ
   k = f.term.0

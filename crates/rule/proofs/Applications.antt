@@ -1,4 +1,4 @@
-__ Application, piece by piece. Assumes nothing.
+-- Application, piece by piece. Assumes nothing.
 use mathlib.Core.Path.{◌≡◌, refl, ap, sym, subst, ◌∙◌}
 use mathlib.Core.List.{List, []}
 use Prim.Native.Nat.{ℕ, ◌+◌}
@@ -39,24 +39,24 @@ use Rattle.step.specs.Under.{Doing, kid_at}
 use Rattle.step.proofs.Frames.{left_none}
 use Rattle.step.proofs.Doing.{doing_start, doing_ctx, doing_same, doing_step, doing_stop}
 use Rattle.step.proofs.Moves.{MadeFor, GrownTo, making_left, making_made, making_serials, made_goes, put_made, put_stops}
-use Rattle.step.proofs.Terms.{double_begins, double_nodes, is-app, app-first, app-second}
+use Rattle.step.proofs.Terms.{double_begins, double_nodes, is_app, app_first, app_second}
 use Rattle.rule.specs.declared.next.Rule.{Rule}
 use Rattle.rule.specs.declared.next.Rest.TheVariants as left
 use Rattle.rule.specs.Reading.{instancing, program}
 use Rattle.rule.specs.Going.{Γ₀, Asked, Resumed}
 use Rattle.rule.proofs.Going.{says, answered_synth, asks, turned}
 
-__ THE FUNCTION is asked
+-- THE FUNCTION is asked
 pub application_begins : {l : List ℕ} {R : Rooms} {k : Place} {st : State} → Ready l R k.0 st → (term_record l k.0).kind ≡ 5
     → Asked l R (record { term = k; want = want.Synth; start = st }) R left.Argument (term_record l k.0).child1.0 want.Synth (inner st)
 unfolding double_step app_step app_synth
 application_begins {l} {R} {k} {st} rd kind =
     let t = rd.base.table in
     let r = term_record l k.0 in
-    asks rd tt (doing_start _ (kid_at l r.child1.0, (kid_at l r.child2.0, tt)) rd (double_begins l k.0 R synth st Double.app r.child1.0 r.child2.0 (is-app t rd.here kind)))
-    (omega arith) (omega (arith, double_nodes (is-app t rd.here kind))) (refl, refl, omega arith) (app-first t rd.here kind, (app-second t rd.here kind, tt)) tt
+    asks rd tt (doing_start _ (kid_at l r.child1.0, (kid_at l r.child2.0, tt)) rd (double_begins l k.0 R synth st Double.app r.child1.0 r.child2.0 (is_app t rd.here kind)))
+    (omega arith) (omega (arith, double_nodes (is_app t rd.here kind))) (refl, refl, omega arith) (app_first t rd.here kind, (app_second t rd.here kind, tt)) tt
 
-__ THE ARGUMENT, for a function that has the type t
+-- THE ARGUMENT, for a function that has the type t
 module _ {l : List ℕ} {R₀ : Rooms} {f : Rule} {R : Rooms} {t : Sort} {s : State} (a : Resumed l R₀ f R left.Argument t s) where
   abbrev k : ℕ
   k = f.term.0
@@ -74,20 +74,20 @@ module _ {l : List ℕ} {R₀ : Rooms} {f : Rule} {R : Rooms} {t : Sort} {s : St
   headed = doing_same (ap (program l R.props k w (Γ₀ l R₀ f) left.Argument) (sym a.stands.means)) a.doing
 
   module _ (count : ℕ) (ec : count ≡ count_of l s) where
-    __ of an Impl
-    pub argument-asks : (sp : Parts) → SplitAs imp R.props count t sp → (x y : Proposition) → sp ≡ parts.Both x y → Asked l R₀ f R (left.Concludes y) c₂ (want.Check (sort.Proposition x)) s
-    argument-asks sp is x y e =
+    -- of an Impl
+    pub argument_asks : (sp : Parts) → SplitAs imp R.props count t sp → (x y : Proposition) → sp ≡ parts.Both x y → Asked l R₀ f R (left.Concludes y) c₂ (want.Check (sort.Proposition x)) s
+    argument_asks sp is x y e =
         let split : Split imp R.props count t x.0 y.0 = subst (SplitAs imp R.props count t) e is in
         asks a.begun a.wants (doing_same (split.goes (props l) one _ _) headed) a.holds.2 a.fits (omega (arith, split.second, ec), omega (arith, a.holds.1), a.holds.0) a.others (omega (arith, split.first, ec))
 
-    __ of a ForAll
+    -- of a ForAll
     module _ (bare : Unsplit imp R.props t) (sp : Quantified) (is : OverAs all R.props count t sp) (r : TermRecord) (er : r ≡ term_record l k) where
       applied : Doing l R₀ k w f.start R s (applying k c₁ c₂ (Γ₀ l R₀ f) (reads l R.props t)) (kid_at l c₂, tt) a.used a.own a.wide
       applied = doing_same (bare (props l) one _ _) headed
 
-      pub object-other : sp ≡ quantified.Other → (e : Refusal) → e ≡ record { number = 22; place = r.child1.0 } → Refuses (run_of l R₀ k w f.start) e
+      pub object_other : sp ≡ quantified.Other → (e : Refusal) → e ≡ record { number = 22; place = r.child1.0 } → Refuses (run_of l R₀ k w f.start) e
       unfolding applying obey
-      object-other q e ee =
+      object_other q e ee =
           let other : NotOver all R.props t = subst (OverAs all R.props count t) q is in
           let place : r.child1.0 ≡ c₁ = ap (λ (r : TermRecord). r.child1.0) er in
           says 22 c₁ (ee ∙ (λ z. record { number = 22; place = place z })) (doing_stop (refusal 22 c₁) applied (ap (λ (q : Prog one). obey q (kid_at l c₂, tt) (st_of s)) (other (props l) one _ _)))
@@ -105,29 +105,29 @@ module _ {l : List ℕ} {R₀ : Rooms} {f : Rule} {R : Rooms} {t : Sort} {s : St
         abbrev known : ℕ → Prog one
         known i = ask (check (datatype D.0)) (Γ₀ l R₀ f) λ _. instancing k i B
 
-        same-context : ctx_of l R.props R.work s.context ≡ Γ₀ l R₀ f
-        same-context = ap (ctx_of l R.props R.work) a.doing.left.context ∙ doing_ctx a.begun.base a.doing
+        same_context : ctx_of l R.props R.work s.context ≡ Γ₀ l R₀ f
+        same_context = ap (ctx_of l R.props R.work) a.doing.left.context ∙ doing_ctx a.begun.base a.doing
 
         objecting : Doing l R₀ k w f.start R s (objected 24 20 c₂ (ctx_of l R.props R.work s.context) known) (kid_at l c₂, tt) a.used a.own a.wide
         unfolding applying
-        objecting = doing_same (over.goes (props l) one _ _ ∙ (λ z. objected 24 20 c₂ (sym same-context z) known)) applied
+        objecting = doing_same (over.goes (props l) one _ _ ∙ (λ z. objected 24 20 c₂ (sym same_context z) known)) applied
 
-        pub object-refused : (e : Refusal) → ob ≡ object.Refused e → Refuses (run_of l R₀ k w f.start) e
-        object-refused e eo = doing_stop (refusal_of e) objecting (subst (ObjectAs l R.props R.work want.Synth c₂ s) eo tells done known (kid_at l c₂, tt) refl)
+        pub object_refused : (e : Refusal) → ob ≡ object.Refused e → Refuses (run_of l R₀ k w f.start) e
+        object_refused e eo = doing_stop (refusal_of e) objecting (subst (ObjectAs l R.props R.work want.Synth c₂ s) eo tells done known (kid_at l c₂, tt) refl)
 
-        pub object-asks : (i : Serial) → ob ≡ object.Known i → Asked l R₀ f R (left.Instance i body) c₂ (want.Check (sort.Datatype D)) s
-        object-asks i eo =
+        pub object_asks : (i : Serial) → ob ≡ object.Known i → Asked l R₀ f R (left.Instance i body) c₂ (want.Check (sort.Datatype D)) s
+        object_asks i eo =
             asks a.begun a.wants
             (doing_step _ 0 objecting (left_none objecting.left.grown.arena) objecting.made (omega arith) (subst (ObjectAs l R.props R.work want.Synth c₂ s) eo tells done known (kid_at l c₂, tt) refl))
             (omega (arith, a.holds.2)) a.fits (omega (arith, over.body, ec), omega (arith, a.holds.1), a.holds.0) a.others tt
 
-__ WHAT AN IMPL CONCLUDES
+-- WHAT AN IMPL CONCLUDES
 pub concludes_by : {l : List ℕ} {R₀ : Rooms} {f : Rule} {R : Rooms} {t : Sort} {s : State} {b : Proposition} → Resumed l R₀ f R (left.Concludes b) t s → Resumed l R₀ f R (left.By 6 2) (sort.Proposition b) s
 concludes_by {l} {R₀} {f} {R} {b = b} a =
     turned a (record { among = a.holds.0; means = refl })
     (doing_same (ap (λ (A : Ty). by 6 f.term.0 A []) (sym (answered_synth l R₀.props a.holds.2 (prop (room_at (props l) R.props b.0))))) a.doing) (omega arith) a.holds.1 tt
 
-__ THE BODY OF A FORALL with the object in it
+-- THE BODY OF A FORALL with the object in it
 module _ {l : List ℕ} {R₀ : Rooms} {f : Rule} {R : Rooms} {t : Sort} {s : State} {i : Serial} {b : Proposition} (a : Resumed l R₀ f R (left.Instance i b) t s)
     (count : ℕ) (ec : count ≡ count_of l s) (free : ℕ) (el : free + s.made ≡ limit) (mo : Made) (ps : List ℕ) (puts : PutIs R.props count free b.0 i.0 ps mo) where
   pub instance_full : mo ≡ Full → (e : Refusal) → e ≡ record { number = 30; place = f.term.0 } → Refuses (run_of l R₀ f.term.0 (mode l R₀.props f.want) f.start) e

@@ -1,4 +1,4 @@
-__ TypeAscription, which has no node of its own: the annotation is resolved, and then its child is held to a type. Assumes nothing.
+-- TypeAscription, which has no node of its own: the annotation is resolved, and then its child is held to a type. Assumes nothing.
 use mathlib.Core.Path.{◌≡◌, refl, ap, ap₂, sym, subst, subst⁻¹, ◌∙◌}
 use mathlib.Core.Bool.{Bool, true, false, cond}
 use mathlib.Core.List.{List, []}
@@ -39,13 +39,13 @@ use Rattle.step.specs.Under.{rest, kid_at}
 use Rattle.step.specs.Steps.{annotation_of, AnnotationIn, ResolvedTo, ResolvingAs, saying}
 use Rattle.step.proofs.Programs.{rest_refused, rest_ask, ask_refused, rest_conclude}
 use Rattle.step.proofs.Frames.{left_trans}
-use Rattle.step.proofs.Terms.{single_begins, single_nodes, is-as, as-child}
+use Rattle.step.proofs.Terms.{single_begins, single_nodes, is_as, as_child}
 use Rattle.step.proofs.Moves.{making_left, making_base, making_ctx, making_stands, making_context}
-use Rattle.step.proofs.Annotations.{annotation-says, annotation-among, annotation_given}
+use Rattle.step.proofs.Annotations.{annotation_says, annotation_among, annotation_given}
 use Rattle.step.proofs.Doing.{check_answers}
 use Rattle.rule.proofs.Going.{says as refuses-with}
 
-__ IN BOTH MODES
+-- IN BOTH MODES
 module _ {l : List ℕ} {R : Rooms} {k : Place} {st : State} (rd : Ready l R k.0 st) (kind : (term_record l k.0).kind ≡ 12) (r : TermRecord) (er : r ≡ term_record l k.0)
     (ann : Annotation) (ea : ann ≡ annotation_of r.tag r.typ) where
   abbrev Γ : Ctx
@@ -54,12 +54,12 @@ module _ {l : List ℕ} {R : Rooms} {k : Place} {st : State} (rd : Ready l R k.0
   abbrev c₁ : ℕ
   c₁ = r.child1.0
 
-  __ it has an annotation
+  -- it has an annotation
   pub as_given : ann ≡ annotation.Missing → ⊥
   as_given = annotation_given rd.base.table rd.here r er ann ea kind
 
   pub as_place : (k.0 < c₁) × (c₁ < terms l)
-  as_place = subst⁻¹ (λ (r : TermRecord). (k.0 < r.child1.0) × (r.child1.0 < terms l)) er (as-child rd.base.table rd.here kind)
+  as_place = subst⁻¹ (λ (r : TermRecord). (k.0 < r.child1.0) × (r.child1.0 < terms l)) er (as_child rd.base.table rd.here kind)
 
   pub as_alone : synthesizes (term_record l k.0).kind ≡ false
   unfolding synthesizes
@@ -69,16 +69,16 @@ module _ {l : List ℕ} {R : Rooms} {k : Place} {st : State} (rd : Ready l R k.0
     abbrev T : Ty
     T = reads l R.props t
 
-    pub as-resolve : Counted l × (Loaded l R.props (count_of l st) × (TypeIn (count_of l st) t × ((st.made ≤ limit) × (8 * st.context ≤ length R.work))))
-    as-resolve =
-        let among = annotation-among rd.base.table rd.here r er ann ea rd.base.loaded in
+    pub as_resolve : Counted l × (Loaded l R.props (count_of l st) × (TypeIn (count_of l st) t × ((st.made ≤ limit) × (8 * st.context ≤ length R.work))))
+    as_resolve =
+        let among = annotation_among rd.base.table rd.here r er ann ea rd.base.loaded in
         (rd.base.table.counted, (rd.base.loaded, (subst (AnnotationIn (count_of l st)) et among, (rd.base.made, omega (arith, rd.context, rd.base.table.counted.few, rd.base.work_room)))))
 
     shape : term_at l k.0 ≡ single k.0 (Single.ascribe T) (term_at l c₁)
     unfolding ascribed
     shape =
-        subst⁻¹ (λ (r : TermRecord). term_at l k.0 ≡ ascribed k.0 (annotated l k.0) (term_at l r.child1.0)) er (is-as rd.base.table rd.here kind)
-        ∙ ap (λ (A : Option Ty). ascribed k.0 A (term_at l c₁)) (sym (annotation-says rd.base.table rd.here r er ann ea rd.base.loaded) ∙ ap (saying l R.props) et)
+        subst⁻¹ (λ (r : TermRecord). term_at l k.0 ≡ ascribed k.0 (annotated l k.0) (term_at l r.child1.0)) er (is_as rd.base.table rd.here kind)
+        ∙ ap (λ (A : Option Ty). ascribed k.0 A (term_at l c₁)) (sym (annotation_says rd.base.table rd.here r er ann ea rd.base.loaded) ∙ ap (saying l R.props) et)
 
     sizes : nodes (term_at l k.0) ≡ 1 + nodes (term_at l c₁)
     sizes = single_nodes shape
@@ -87,7 +87,7 @@ module _ {l : List ℕ} {R : Rooms} {k : Place} {st : State} (rd : Ready l R k.0
     unfolding single_step
     begins w = single_begins l k.0 R w st (Single.ascribe T) c₁ shape
 
-    __ resolved
+    -- resolved
     module _ {v : Want} {ps : List ℕ} {u : Sort} {s : State} (to : ResolvedTo l R.props R.work ps k.0 v t st u s) where
       abbrev R₁ : Rooms
       R₁ = rooms R.tree R.goals ps R.work
@@ -110,18 +110,18 @@ module _ {l : List ℕ} {R : Rooms} {k : Place} {st : State} (rd : Ready l R k.0
             context = omega (arith, rd.context, sizes);
           }
 
-      __ the child is held to U, which stands for A
+      -- the child is held to U, which stands for A
       module _ (w : Mode) (U : Sort) {A : Ty} (says : Stands l ps (count_of l s) U A) (goes : run_of l R k.0 w st ≡ rest w end (obey (ask (check A) Γ λ _. conclude A []) (kid_at l c₁, tt) (st_of s))) where
-        same-context : ctx_of l ps R.work s.context ≡ Γ
-        same-context = ap (ctx_of l ps R.work) (making_context to.making) ∙ making_ctx R to.making rd.base
+        same_context : ctx_of l ps R.work s.context ≡ Γ
+        same_context = ap (ctx_of l ps R.work) (making_context to.making) ∙ making_ctx R to.making rd.base
 
         runs : run (term_at l c₁) (check A) Γ (st_of s) ≡ run_of l R₁ c₁ (check (reads l ps U)) s
-        runs = sym (λ i. run (term_at l c₁) (check (says.means i)) (same-context i) (st_of s))
+        runs = sym (λ i. run (term_at l c₁) (check (says.means i)) (same_context i) (st_of s))
 
         stopped : (r : Fault) → run_of l R₁ c₁ (check (reads l ps U)) s ≡ stop r → run_of l R k.0 w st ≡ stop r
         stopped r e = goes ∙ ap (rest w end) (ask_refused (check A) Γ (λ _. conclude A []) (kid_at l c₁, tt) (st_of s) r (runs ∙ e)) ∙ rest_refused w end r
 
-        __ a check answers what was asked of it
+        -- a check answers what was asked of it
         answers : {R₂ : Rooms} {T : Sort} {s₁ : State} → RanAs l R₁ R₂ c₁ (want.Check U) s (ran.Has T s₁) → Stands l R₂.props (count_of l s₁) T A
         answers {R₂} {T} {s₁} m = subst (Stands l R₂.props (count_of l s₁) T) (check_answers (term_at l c₁) _ _ _ m.accepted.accepts ∙ says.means) m.type
 
@@ -138,14 +138,14 @@ module _ {l : List ℕ} {R : Rooms} {k : Place} {st : State} (rd : Ready l R k.0
                 left = left_trans (making_left R to.making) acc.left;
               }
 
-    __ CHECKED: the annotation is compared, and the child is held to what is wanted
+    -- CHECKED: the annotation is compared, and the child is held to what is wanted
     module _ (wanted : Sort) (among : TypeIn (count_of l st) wanted) (ps : List ℕ) (v : Resolving) (is : ResolvingAs l R.props R.work ps k.0 (want.Check wanted) t st v) where
       abbrev E : Ty
       E = reads l R.props wanted
 
-      pub held-unresolved : (e : Refusal) → v ≡ resolving.Refused e → Refuses (run_of l R k.0 (check E) st) e
+      pub held_unresolved : (e : Refusal) → v ≡ resolving.Refused e → Refuses (run_of l R k.0 (check E) st) e
       unfolding ascribe_step
-      held-unresolved e q =
+      held_unresolved e q =
           begins (check E)
           ∙ ap (rest (check E) end) (subst (ResolvingAs l R.props R.work ps k.0 (want.Check wanted) t st) q is one _ (kid_at l c₁, tt))
           ∙ rest_refused (check E) end (refusal_of e)
@@ -157,17 +157,17 @@ module _ {l : List ℕ} {R : Rooms} {k : Place} {st : State} (rd : Ready l R k.0
         says : Stands l ps (count_of l s) wanted E
         says = making_stands to.making rd.base.loaded.arena (record { among = among; means = refl })
 
-        pub held-base : Base l (rooms R.tree R.goals ps R.work) s
-        held-base = making_base R to.making rd.base
+        pub held_base : Base l (rooms R.tree R.goals ps R.work) s
+        held_base = making_base R to.making rd.base
 
-        pub held-compare : (count : ℕ) → count ≡ count_of l s → Arena ps count × (TypeIn count u × TypeIn count wanted)
-        held-compare count e = subst⁻¹ (λ (c : ℕ). Arena ps c × (TypeIn c u × TypeIn c wanted)) e (to.making.arena, (to.stands.among, says.among))
+        pub held_compare : (count : ℕ) → count ≡ count_of l s → Arena ps count × (TypeIn count u × TypeIn count wanted)
+        held_compare count e = subst⁻¹ (λ (c : ℕ). Arena ps c × (TypeIn c u × TypeIn c wanted)) e (to.making.arena, (to.stands.among, says.among))
 
-        pub held-ready : Ready l (rooms R.tree R.goals ps R.work) c₁ s
-        held-ready = ready to
+        pub held_ready : Ready l (rooms R.tree R.goals ps R.work) c₁ s
+        held_ready = ready to
 
-        pub held-type : TypeIn (count_of l s) wanted
-        held-type = says.among
+        pub held_type : TypeIn (count_of l s) wanted
+        held_type = says.among
 
         module _ (c : Compared) (ic : (tables : ℕ) → c ≡ compared_types (type_at tables ps u) (type_at tables ps wanted)) (b : Bool) (eb : b ≡ is_alpha c) where
           test : alpha to.typ E ≡ b
@@ -180,20 +180,20 @@ module _ {l : List ℕ} {R : Rooms} {k : Place} {st : State} (rd : Ready l R k.0
               ∙ ap (rest (check E) end) (to.goes one _ (kid_at l c₁, tt))
               ∙ ap (λ (x : Bool). rest (check E) end (obey (cond x (ask (check E) Γ λ _. conclude E []) (refuse 15 k.0)) (kid_at l c₁, tt) (st_of s))) (test ∙ e)
 
-          pub held-apart : b ≡ false → (x : Refusal) → x ≡ record { number = 15; place = k.0 } → Refuses (run_of l R k.0 (check E) st) x
+          pub held_apart : b ≡ false → (x : Refusal) → x ≡ record { number = 15; place = k.0 } → Refuses (run_of l R k.0 (check E) st) x
           unfolding obey
-          held-apart e x ex = refuses-with 15 k.0 ex (goes false e ∙ rest_refused (check E) end (refusal 15 k.0))
+          held_apart e x ex = refuses-with 15 k.0 ex (goes false e ∙ rest_refused (check E) end (refusal 15 k.0))
 
-          pub held-done : b ≡ true → (R₂ : Rooms) (o : Ran) → RanAs l (rooms R.tree R.goals ps R.work) R₂ c₁ (want.Check wanted) s o → RanAs l R R₂ k.0 (want.Check wanted) st o
+          pub held_done : b ≡ true → (R₂ : Rooms) (o : Ran) → RanAs l (rooms R.tree R.goals ps R.work) R₂ c₁ (want.Check wanted) s o → RanAs l R R₂ k.0 (want.Check wanted) st o
           unfolding answered accepted
-          held-done e R₂ (ran.Has T s₁) m = record { accepted = accepted to (check E) wanted says (goes true e) m.accepted; type = answers to (check E) wanted says (goes true e) m }
-          held-done e R₂ (ran.Refused x) m = stopped to (check E) wanted says (goes true e) (refusal_of x) m
+          held_done e R₂ (ran.Has T s₁) m = record { accepted = accepted to (check E) wanted says (goes true e) m.accepted; type = answers to (check E) wanted says (goes true e) m }
+          held_done e R₂ (ran.Refused x) m = stopped to (check E) wanted says (goes true e) (refusal_of x) m
 
-    __ SYNTHESIZED: the child is held to the annotation, which is answered
+    -- SYNTHESIZED: the child is held to the annotation, which is answered
     module _ (ps : List ℕ) (v : Resolving) (is : ResolvingAs l R.props R.work ps k.0 want.Synth t st v) where
-      pub found-unresolved : (e : Refusal) → v ≡ resolving.Refused e → Refuses (run_of l R k.0 synth st) e
+      pub found_unresolved : (e : Refusal) → v ≡ resolving.Refused e → Refuses (run_of l R k.0 synth st) e
       unfolding ascribe_step
-      found-unresolved e q =
+      found_unresolved e q =
           begins synth
           ∙ ap (rest synth end) (subst (ResolvingAs l R.props R.work ps k.0 want.Synth t st) q is one _ (kid_at l c₁, tt))
           ∙ rest_refused synth end (refusal_of e)
@@ -206,13 +206,13 @@ module _ {l : List ℕ} {R : Rooms} {k : Place} {st : State} (rd : Ready l R k.0
         unfolding ascribe_step
         goes_on = begins synth ∙ ap (rest synth end) (found.goes one _ (kid_at l c₁, tt))
 
-        pub found-ready : Ready l (rooms R.tree R.goals ps R.work) c₁ s
-        found-ready = ready found
+        pub found_ready : Ready l (rooms R.tree R.goals ps R.work) c₁ s
+        found_ready = ready found
 
         pub found_type : TypeIn (count_of l s) u
         found_type = found.stands.among
 
-        pub found-done : (R₂ : Rooms) (o : Ran) → RanAs l (rooms R.tree R.goals ps R.work) R₂ c₁ (want.Check u) s o → RanAs l R R₂ k.0 want.Synth st o
+        pub found_done : (R₂ : Rooms) (o : Ran) → RanAs l (rooms R.tree R.goals ps R.work) R₂ c₁ (want.Check u) s o → RanAs l R R₂ k.0 want.Synth st o
         unfolding answered accepted
-        found-done R₂ (ran.Has T s₁) m = record { accepted = accepted found synth u found.stands goes_on m.accepted; type = answers found synth u found.stands goes_on m }
-        found-done R₂ (ran.Refused x) m = stopped found synth u found.stands goes_on (refusal_of x) m
+        found_done R₂ (ran.Has T s₁) m = record { accepted = accepted found synth u found.stands goes_on m.accepted; type = answers found synth u found.stands goes_on m }
+        found_done R₂ (ran.Refused x) m = stopped found synth u found.stands goes_on (refusal_of x) m

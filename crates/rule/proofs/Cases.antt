@@ -1,4 +1,4 @@
-__ Case, piece by piece, in either mode. Assumes nothing.
+-- Case, piece by piece, in either mode. Assumes nothing.
 use mathlib.Core.Path.{◌≡◌, refl, ap, sym, subst, subst⁻¹, ◌∙◌}
 use mathlib.Core.Bool.{Bool, true, false, not, cond}
 use mathlib.Core.List.{List, [], ◌∷◌}
@@ -38,7 +38,7 @@ use Rattle.step.specs.Trees.{node_rec}
 use Rattle.step.specs.Contract.{Ready, Refuses, run_of, RanAs}
 use Rattle.step.specs.Under.{Doing, kid_at}
 use Rattle.step.proofs.Doing.{doing_start, doing_same, doing_stop}
-use Rattle.step.proofs.Terms.{triple_begins, triple_nodes, is-case, case-head, case-left, case-right}
+use Rattle.step.proofs.Terms.{triple_begins, triple_nodes, is_case, case_head, case_left, case_right}
 use Rattle.step.proofs.Refusing.{mode_refusal}
 use Rattle.rule.specs.declared.next.Rule.{Rule}
 use Rattle.rule.specs.declared.next.Rest.TheVariants as left
@@ -46,7 +46,7 @@ use Rattle.rule.specs.Reading.{after, kids, arming, judging, program}
 use Rattle.rule.specs.Going.{Γ₀, Asked, Resumed, ArmsAs}
 use Rattle.rule.proofs.Going.{says, of_number, asks, asks_fresh, mode_kept, wants_kept, concludes, answer_stands}
 
-__ THE HEAD is asked
+-- THE HEAD is asked
 pub case_begins : {l : List ℕ} {R : Rooms} {k : Place} {st : State} {w : Want} → Ready l R k.0 st → (term_record l k.0).kind ≡ 9 → WantIn (count_of l st) w
     → Asked l R (record { term = k; want = w; start = st }) R left.CaseLeft (term_record l k.0).child1.0 want.Synth (inner st)
 unfolding triple_step case_step
@@ -55,10 +55,10 @@ case_begins {l} {R} {k} {st} {w} rd kind wants =
     let r = term_record l k.0 in
     asks rd wants
     (doing_start _ (kid_at l r.child1.0, (kid_at l r.child2.0, (kid_at l r.child3.0, tt))) rd
-    (triple_begins l k.0 R (mode l R.props w) st (Triple.case r.name1.0 r.name2.0) r.child1.0 r.child2.0 r.child3.0 (is-case t rd.here kind)))
-    (omega arith) (omega (arith, triple_nodes (is-case t rd.here kind))) (refl, refl) (case-head t rd.here kind, (case-left t rd.here kind, (case-right t rd.here kind, tt))) tt
+    (triple_begins l k.0 R (mode l R.props w) st (Triple.case r.name1.0 r.name2.0) r.child1.0 r.child2.0 r.child3.0 (is_case t rd.here kind)))
+    (omega arith) (omega (arith, triple_nodes (is_case t rd.here kind))) (refl, refl) (case_head t rd.here kind, (case_left t rd.here kind, (case_right t rd.here kind, tt))) tt
 
-__ THE LEFT ARM, of what the head has
+-- THE LEFT ARM, of what the head has
 module _ {l : List ℕ} {R₀ : Rooms} {f : Rule} {R : Rooms} {t : Sort} {s : State} (a : Resumed l R₀ f R left.CaseLeft t s) (count : ℕ) (ec : count ≡ count_of l s) (sp : Parts) (is : SplitAs or R.props count t sp) where
   abbrev k : ℕ
   k = f.term.0
@@ -90,7 +90,7 @@ module _ {l : List ℕ} {R₀ : Rooms} {f : Rule} {R : Rooms} {t : Sort} {s : St
       (ap (λ (v : Mode). ask v (entry (term_record l k).name1.0 s.serials (reads l R.props (sort.Proposition x)) ∷ Γ₀ l R₀ f) λ S. arming l k w (Γ₀ l R₀ f) s.serials (room_at (props l) R.props y.0) S) (mode_kept f.want a.begun a.wants d))
       (omega (arith, a.holds.1)) a.fits (omega (arith, split.second, ec), omega (arith, a.holds.0), omega (arith, a.holds.1)) a.others (wants_kept f.want a.begun a.wants d)
 
-__ THE RIGHT ARM
+-- THE RIGHT ARM
 module _ {l : List ℕ} {R₀ : Rooms} {f : Rule} {R : Rooms} {t : Sort} {s : State} {i : Serial} {b : Proposition} (a : Resumed l R₀ f R (left.CaseRight i b) t s) where
   pub right_asks : (r : TermRecord) → r ≡ term_record l f.term.0 → {work' : List ℕ} {s₁ : State}
       → (s₁ ≡ deeper (numbered s)) × Inserted R.work s.context (record { name = r.name2; serial = record { 0 = s.serials }; typ = sort.Proposition b }) work'
@@ -102,7 +102,7 @@ module _ {l : List ℕ} {R₀ : Rooms} {f : Rule} {R : Rooms} {t : Sort} {s : St
       (λ z. ask (mode_kept f.want a.begun a.wants a.doing z) (entry (term_record l f.term.0).name2.0 s.serials (reads l R.props (sort.Proposition b)) ∷ Γ₀ l R₀ f) λ T. judging f.term.0 w i.0 s.serials (sym a.stands.means z) T)
       a.holds.2 a.fits (a.stands.among, omega (arith, a.holds.1)) a.others (wants_kept f.want a.begun a.wants a.doing)
 
-__ THE END
+-- THE END
 pub arms_alike : (l ps : List ℕ) (t u : Sort) (c : Compared) → ((tables : ℕ) → c ≡ compared_types (type_at tables ps t) (type_at tables ps u)) → (x : Bool) → x ≡ is_alpha c → (w : Want) → w ≡ want.Synth → ArmsAs l ps w t u x
 arms_alike l ps t u c h x e w ew = subst⁻¹ (λ (w : Want). ArmsAs l ps w t u x) ew (e ∙ alpha_types c (reads l ps t) (reads l ps u) (h (props l)))
 
@@ -146,13 +146,13 @@ module _ {l : List ℕ} {R₀ : Rooms} {f : Rule} {R : Rooms} {t u : Sort} {s : 
     typed : (T : Sort) → t ≡ T → Doing l R₀ k₂ v f.start R s (deciding (number_of f.want 13 24) (reads l R.props T) true) tt a.used a.own a.wide
     typed T e = doing_same (ap (λ (T : Sort). deciding (number_of f.want 13 24) (reads l R.props T) true) e) (decided true (true_of x h))
 
-    pub case-data : (D : Name) → t ≡ sort.Datatype D → (n : ℕ) → n ≡ number_of f.want 13 24 → (r : Refusal) → r ≡ record { number = n; place = k₂ } → Refuses (run_of l R₀ k₂ v f.start) r
+    pub case_data : (D : Name) → t ≡ sort.Datatype D → (n : ℕ) → n ≡ number_of f.want 13 24 → (r : Refusal) → r ≡ record { number = n; place = k₂ } → Refuses (run_of l R₀ k₂ v f.start) r
     unfolding obey on_prop
-    case-data D e n en r er = says (number_of f.want 13 24) k₂ (mode_refusal r n _ k₂ en er) (doing_stop (refusal (number_of f.want 13 24) k₂) (typed (sort.Datatype D) e) refl)
+    case_data D e n en r er = says (number_of f.want 13 24) k₂ (mode_refusal r n _ k₂ en er) (doing_stop (refusal (number_of f.want 13 24) k₂) (typed (sort.Datatype D) e) refl)
 
-    pub case-done : (p : Proposition) → t ≡ sort.Proposition p → (nd : Record) → nd ≡ node_rec 9 k₂ t i.0 j.0 3 → (tr : List ℕ) → Put R.tree f.start.records nd tr → (found : Sort) → found ≡ answer_of f.want u
+    pub case_done : (p : Proposition) → t ≡ sort.Proposition p → (nd : Record) → nd ≡ node_rec 9 k₂ t i.0 j.0 3 → (tr : List ℕ) → Put R.tree f.start.records nd tr → (found : Sort) → found ≡ answer_of f.want u
         → RanAs l R₀ (rooms tr R.goals R.props R.work) k₂ f.want f.start (ran.Has found s)
     unfolding on_prop
-    case-done p e nd en tr put found ef =
+    case_done p e nd en tr put found ef =
         concludes f t found (typed (sort.Proposition p) e) (record { among = a.holds.0; means = refl }) (subst⁻¹ (λ (U : Sort). Stands l R.props (count_of l s) U (answered v a.typ)) ef (answer_stands a))
         (en ∙ ap (node_rec 9 k₂ t i.0 j.0) (sym a.holds.1)) put

@@ -1,4 +1,4 @@
-__ The kinds by their numbers, as the two matches tell them apart. Assumes nothing.
+-- The kinds by their numbers, as the two matches tell them apart. Assumes nothing.
 use mathlib.Core.Path.{◌≡◌, refl, ap, sym, subst, ◌∙◌}
 use mathlib.Core.Logic.{◌⊎◌, inl, inr}
 use mathlib.Core.Bool.{true, false, false≢true}
@@ -21,18 +21,18 @@ use Rattle.step.specs.declared.state.State.{State}
 use Rattle.step.specs.Rooms.{Rooms, Table, ctx_of, st_of}
 use Rattle.step.specs.Contract.{Ready, Refuses, run_of, synthesizes}
 use Rattle.step.proofs.Programs.{rest_refused}
-use Rattle.step.proofs.Terms.{single_begins, is-abort, is-sorry}
+use Rattle.step.proofs.Terms.{single_begins, is_abort, is_sorry}
 use Rattle.rule.proofs.Going.{says}
 use Rattle.rule.proofs.Ors.{injects}
 
-__ the kind of the record that was read
+-- the kind of the record that was read
 pub kind_is : (l : List ℕ) (k : ℕ) (r : TermRecord) (j : ℕ) → r ≡ term_record l k → r.kind ≡ j → (term_record l k).kind ≡ j
 kind_is l k r j e f = subst (λ (r : TermRecord). r.kind ≡ j) e f
 
 pub kind_between : (l : List ℕ) (k : ℕ) (r : TermRecord) (low high : ℕ) → r ≡ term_record l k → low < r.kind → r.kind < high → (low < (term_record l k).kind) × ((term_record l k).kind < high)
 kind_between l k r low high e f g = subst (λ (r : TermRecord). (low < r.kind) × (r.kind < high)) e (f, g)
 
-__ NUMBERS between those that a match names
+-- NUMBERS between those that a match names
 above : (m j : ℕ) → m ≤ j → (j ≡ m → ⊥) → m + 1 ≤ j
 above m j h n = at (eq-or-lt_of_le h)
   where
@@ -52,7 +52,7 @@ past_six j h a = above 6 j h a
 pub past_twelve : (j : ℕ) → 9 ≤ j → (j ≡ 9 → ⊥) → (j ≡ 10 → ⊥) → (j ≡ 11 → ⊥) → (j ≡ 12 → ⊥) → 12 < j
 past_twelve j h a b c d = above 12 j (above 11 j (above 10 j (above 9 j h a) b) c) d
 
-__ NO OTHER KIND is in a table
+-- NO OTHER KIND is in a table
 pub kind_known : {l : List ℕ} → Table l → (k : ℕ) → k < terms l → (term_record l k).kind < 14
 unfolding term_shape
 kind_known {l} table k h = at
@@ -68,7 +68,7 @@ kind_known {l} table k h = at
     at : (term_record l k).kind < 14
     at = let p = past in omega arith
 
-__ so the last arm of a match is never taken: the kinds below 6 that it is left with are compared
+-- so the last arm of a match is never taken: the kinds below 6 that it is left with are compared
 low_kinds : (j : ℕ) → j < 6 → synthesizes j ≡ false → (j ≡ 1 → ⊥) → (j ≡ 4 → ⊥) → ⊥
 unfolding synthesizes
 low_kinds zero h s a b = false≢true (sym s)
@@ -92,7 +92,7 @@ kind_other {l} {k = k} rd s r er n1 n4 n9 n10 n11 n12 n13 came = at came
         let past : 14 ≤ r.kind = above 13 r.kind (past_twelve r.kind h n9 n10 n11 n12) n13 in
         omega (arith, kind_known rd.base.table k rd.here, kind)
 
-__ WHAT DOES NOT SYNTHESIZE
+-- WHAT DOES NOT SYNTHESIZE
 module _ {l : List ℕ} {R : Rooms} {k : ℕ} {st : State} (rd : Ready l R k st) (r : TermRecord) (er : r ≡ term_record l k) where
   abbrev Γ : Ctx
   Γ = ctx_of l R.props R.work st.context
@@ -106,11 +106,11 @@ module _ {l : List ℕ} {R : Rooms} {k : ℕ} {st : State} (rd : Ready l R k st)
 
   pub abort_not : r.kind ≡ 10 → (e : Refusal) → e ≡ record { number = 25; place = k } → Refuses (run_of l R k synth st) e
   unfolding single_step abort_step obey
-  abort_not h e ee = says 25 k ee (single_begins l k R synth st Single.abort c₁ (is-abort rd.base.table rd.here (kind_is l k r 10 er h)) ∙ rest_refused synth end (refusal 25 k))
+  abort_not h e ee = says 25 k ee (single_begins l k R synth st Single.abort c₁ (is_abort rd.base.table rd.here (kind_is l k r 10 er h)) ∙ rest_refused synth end (refusal 25 k))
 
   pub sorry_not : 12 < r.kind → (e : Refusal) → e ≡ record { number = 25; place = k } → Refuses (run_of l R k synth st) e
   unfolding run sorry_run
   sorry_not h e ee =
       let low : 12 < (term_record l k).kind = subst (λ (r : TermRecord). 12 < r.kind) er h in
       let known = kind_known rd.base.table k rd.here in
-      says 25 k ee (ap (λ (t : Term). run t synth Γ (st_of st)) (is-sorry rd.base.table rd.here (omega arith)))
+      says 25 k ee (ap (λ (t : Term). run t synth Γ (st_of st)) (is_sorry rd.base.table rd.here (omega arith)))

@@ -1,4 +1,4 @@
-__ Function, piece by piece. Assumes nothing.
+-- Function, piece by piece. Assumes nothing.
 use mathlib.Core.Path.{◌≡◌, refl, ap, sym, subst, subst⁻¹, ◌∙◌}
 use mathlib.Core.List.{List, [], ◌∷◌}
 use mathlib.Core.Option.{Option}
@@ -50,25 +50,25 @@ use Rattle.step.specs.Contract.{Ready, refusal_of, Refuses, run_of, RanAs}
 use Rattle.step.specs.Steps.{Making, annotation_of, AnnotationIn, ResolvedTo, ResolvingAs, saying, AgreedOn, AgreedAs, OpenedTo, OpenedAs, AbstractedTo, AbstractedAs}
 use Rattle.step.specs.Under.{Doing, kid_at}
 use Rattle.step.proofs.Doing.{doing_start, doing_base, doing_ctx, doing_stands, doing_same, doing_step, doing_stop}
-use Rattle.step.proofs.Terms.{single_begins, single_nodes, is-fun, fun-child}
+use Rattle.step.proofs.Terms.{single_begins, single_nodes, is_fun, fun_child}
 use Rattle.step.proofs.Moves.{making_left, making_made, making_serials, making_stands, numbered_left, entered_left, entered_entries, entered_ctx}
-use Rattle.step.proofs.Annotations.{annotation-says, annotation-among}
+use Rattle.step.proofs.Annotations.{annotation_says, annotation_among}
 use Rattle.rule.specs.declared.next.Rule.{Rule}
 use Rattle.rule.specs.declared.next.Rest.TheVariants as left
 use Rattle.rule.specs.Reading.{abstracting}
 use Rattle.rule.specs.Going.{Asked, Resumed, Fresh}
 use Rattle.rule.proofs.Going.{says, answered_synth, few_entries, asks_in, asks_fresh, ends_with, turned}
 
-__ what was made is made with one record more
+-- what was made is made with one record more
 inner_making : {l ps ps' : List ℕ} {st st' : State} → Making l ps ps' st st' → Making l ps ps' (inner st) (inner st')
 inner_making mk = record { spent = mk.spent; state = ap (λ (s : State). inner s) mk.state; within = mk.within; arena = mk.arena; same = mk.same; long = mk.long }
 
-__ a serial is taken
+-- a serial is taken
 serial_goes : {n : Arity} (q : ℕ → Prog n) (ks : Kids n) (st : State) → obey (serial q) ks (st_of st) ≡ obey (q st.serials) ks (st_of (numbered st))
 unfolding obey
 serial_goes q ks st = ap (λ (j : ℕ). obey (q st.serials) ks (record { serials = j; made = st.made })) (sym (add-one st.serials))
 
-__ IN BOTH MODES
+-- IN BOTH MODES
 module _ {l : List ℕ} {R : Rooms} {k : Place} {st : State} (rd : Ready l R k.0 st) (kind : (term_record l k.0).kind ≡ 4) (r : TermRecord) (er : r ≡ term_record l k.0) where
   abbrev Γ : Ctx
   Γ = ctx_of l R.props R.work st.context
@@ -80,19 +80,19 @@ module _ {l : List ℕ} {R : Rooms} {k : Place} {st : State} (rd : Ready l R k.0
   x = (term_record l k.0).name1.0
 
   sizes : nodes (term_at l k.0) ≡ 1 + nodes (term_at l c₁)
-  sizes = single_nodes (is-fun rd.base.table rd.here kind)
+  sizes = single_nodes (is_fun rd.base.table rd.here kind)
 
   inside : ((k.0 < c₁) × (c₁ < terms l)) × Unit {0}
-  inside = (fun-child rd.base.table rd.here kind, tt)
+  inside = (fun_child rd.base.table rd.here kind, tt)
 
   begun : (w : Mode) → Doing l R k.0 w st R (inner st) (fun_step k.0 c₁ x (written l k.0) w Γ) (kid_at l c₁, tt) 0 0 0
   unfolding single_step
-  begun w = doing_start _ (kid_at l c₁, tt) rd (single_begins l k.0 R w st (Single.fun x (written l k.0)) c₁ (is-fun rd.base.table rd.here kind))
+  begun w = doing_start _ (kid_at l c₁, tt) rd (single_begins l k.0 R w st (Single.fun x (written l k.0)) c₁ (is_fun rd.base.table rd.here kind))
 
   pub function_serials : (z : State) → z ≡ inner st → z.serials < largest
   function_serials z e = let g = ap (λ (s : State). s.serials) e in omega (arith, rd.serials, rd.base.table.counted.few, sizes)
 
-  __ CHECKED: what `new_identifier` says, of the state that `inner` answered
+  -- CHECKED: what `new_identifier` says, of the state that `inner` answered
   module _ (wanted : Sort) (among : TypeIn (count_of l st) wanted) (z : State) (ez : z ≡ inner st) (id : Identifier) (s₀ : State) (en : id.name ≡ r.name1) (ei₀ : id.serial.0 ≡ z.serials) (e₀₀ : s₀ ≡ numbered z) where
     abbrev E : Ty
     E = reads l R.props wanted
@@ -122,14 +122,14 @@ module _ {l : List ℕ} {R : Rooms} {k : Place} {st : State} (rd : Ready l R k.0
         (subst⁻¹ (λ (i : ℕ). Doing l R k.0 (check E) st R (numbered (inner st)) (parts i) (kid_at l c₁, tt) 0 1 0) ei
         (doing_step _ 1 (begun (check E)) (numbered_left rd.base.loaded.arena) rd.base.made (omega arith) (serial_goes parts (kid_at l c₁, tt) (inner st))))
 
-    pub open-asks : Counted l × (Loaded l R.props (count_of l s₀) × (TypeIn (count_of l s₀) wanted × (s₀.made ≤ limit)))
-    open-asks =
+    pub open_asks : Counted l × (Loaded l R.props (count_of l s₀) × (TypeIn (count_of l s₀) wanted × (s₀.made ≤ limit)))
+    open_asks =
         let stands : Stands l R.props (count_of l s₀) wanted E = doing_stands rd.base counted (record { among = among; means = refl }) in
         (rd.base.table.counted, ((doing_base rd.base counted).loaded, (stands.among, counted.made)))
 
     module _ (ps₁ : List ℕ) (op : Opened) (is : OpenedAs l R.props ps₁ k.0 wanted i s₀ op) where
-      pub open-refused : (e : Refusal) → op ≡ opened.Refused e → Refuses (run_of l R k.0 (check E) st) e
-      open-refused e q = doing_stop (refusal_of e) counted (subst (OpenedAs l R.props ps₁ k.0 wanted i s₀) q is one _ (kid_at l c₁, tt))
+      pub open_refused : (e : Refusal) → op ≡ opened.Refused e → Refuses (run_of l R k.0 (check E) st) e
+      open_refused e q = doing_stop (refusal_of e) counted (subst (OpenedAs l R.props ps₁ k.0 wanted i s₀) q is one _ (kid_at l c₁, tt))
 
       module _ (rule : ℕ) (a : Sort) (b : Proposition) (s : State) (q : op ≡ opened.Body rule a b s) (ann : Annotation) (ea : ann ≡ annotation_of r.tag r.typ) where
         to : OpenedTo l R.props ps₁ k.0 wanted i s₀ rule a b.0 s
@@ -147,29 +147,29 @@ module _ {l : List ℕ} {R : Rooms} {k : Place} {st : State} (rd : Ready l R k.0
         room : Base l R₁ s
         room = doing_base rd.base started
 
-        pub agree-asks : Counted l × (Loaded l ps₁ (count_of l s) × ((AnnotationIn (count_of l s) ann × TypeIn (count_of l s) a) × ((s.made ≤ limit) × (8 * s.context ≤ length R.work))))
-        agree-asks = (
+        pub agree_asks : Counted l × (Loaded l ps₁ (count_of l s) × ((AnnotationIn (count_of l s) ann × TypeIn (count_of l s) a) × ((s.made ≤ limit) × (8 * s.context ≤ length R.work))))
+        agree_asks = (
           rd.base.table.counted,
           (
             room.loaded,
             (
-              (annotation-among rd.base.table rd.here r er ann ea room.loaded, to.parameter_stands.among),
+              (annotation_among rd.base.table rd.here r er ann ea room.loaded, to.parameter_stands.among),
               (started.made, omega (arith, rd.context, rd.base.table.counted.few, rd.base.work_room, started.left.context)),
             ),
           ),
         )
 
-        same-context : Γ ≡ ctx_of l ps₁ R.work s.context
-        same-context = sym (doing_ctx rd.base started) ∙ ap (ctx_of l ps₁ R.work) (sym started.left.context)
+        same_context : Γ ≡ ctx_of l ps₁ R.work s.context
+        same_context = sym (doing_ctx rd.base started) ∙ ap (ctx_of l ps₁ R.work) (sym started.left.context)
 
         asked : Doing l R k.0 (check E) st R₁ s (annotated k.0 (ctx_of l ps₁ R.work s.context) (saying l ps₁ ann) (reads l ps₁ a) rest_of) (kid_at l c₁, tt) 0 1 0
         asked =
-            let says = sym (annotation-says rd.base.table rd.here r er ann ea room.loaded) in
-            doing_same (λ j. annotated k.0 (same-context j) (says j) (sym to.parameter_stands.means j) rest_of) started
+            let says = sym (annotation_says rd.base.table rd.here r er ann ea room.loaded) in
+            doing_same (λ j. annotated k.0 (same_context j) (says j) (sym to.parameter_stands.means j) rest_of) started
 
         module _ (ps₂ : List ℕ) (ag : Agreed) (ia : AgreedAs l ps₁ R.work ps₂ k.0 ann a s ag) where
-          pub agree-refused : (e : Refusal) → ag ≡ agreed.Refused e → Refuses (run_of l R k.0 (check E) st) e
-          agree-refused e q = doing_stop (refusal_of e) asked (subst (AgreedAs l ps₁ R.work ps₂ k.0 ann a s) q ia one _ (kid_at l c₁, tt))
+          pub agree_refused : (e : Refusal) → ag ≡ agreed.Refused e → Refuses (run_of l R k.0 (check E) st) e
+          agree_refused e q = doing_stop (refusal_of e) asked (subst (AgreedAs l ps₁ R.work ps₂ k.0 ann a s) q ia one _ (kid_at l c₁, tt))
 
           module _ (s₁ : State) (q₁ : ag ≡ agreed.On s₁) where
             on : AgreedOn l ps₁ R.work ps₂ k.0 ann a s s₁
@@ -187,13 +187,13 @@ module _ {l : List ℕ} {R : Rooms} {k : Place} {st : State} (rd : Ready l R k.0
             body : Stands l ps₂ (count_of l s₁) (sort.Proposition b) (prop to.body)
             body = making_stands on.making to.making.arena to.body_stands
 
-            pub enter-room : (8 * s₁.context + 8 ≤ length R.work) × (s₁.context < largest)
-            enter-room = let few : s₁.context < most_entries = few_entries rd ahead in (omega (arith, rd.base.work_room), omega arith)
+            pub enter_room : (8 * s₁.context + 8 ≤ length R.work) × (s₁.context < largest)
+            enter_room = let few : s₁.context < most_entries = few_entries rd ahead in (omega (arith, rd.base.work_room), omega arith)
 
-            pub function-begins : (s₂ : State) (work : List ℕ) → s₂ ≡ deeper s₁ → Inserted R.work s₁.context (record { name = id.name; serial = id.serial; typ = a }) work
+            pub function_begins : (s₂ : State) (work : List ℕ) → s₂ ≡ deeper s₁ → Inserted R.work s₁.context (record { name = id.name; serial = id.serial; typ = a }) work
                 → Asked l R f (rooms R.tree R.goals ps₂ work) (left.Closes rule id.serial) c₁ (want.Check (sort.Proposition b)) s₂
             unfolding answered
-            function-begins s₂ work e₂ ins =
+            function_begins s₂ work e₂ ins =
                 let entered = doing_step rest_of 0 ahead (entered_left R₂ s₁ ins on.making.arena (few_entries rd ahead)) ahead.made (omega arith) refl in
                 let outer : Γ ≡ ctx_of l ps₂ R.work s₁.context = sym (doing_ctx rd.base ahead) ∙ ap (ctx_of l ps₂ R.work) (sym ahead.left.context) in
                 let name : x ≡ id.name.0 = ap (λ (r : TermRecord). r.name1.0) (sym er) ∙ ap (λ (n : Name). n.0) (sym en) in
@@ -201,19 +201,19 @@ module _ {l : List ℕ} {R : Rooms} {k : Place} {st : State} (rd : Ready l R k.0
                 asks_in 1 rd among (doing_same (λ j. ask (check (sym body.means j)) (deep j) λ _. by rule k.0 E (i ∷ [])) entered) e₂ (omega arith) (omega arith) (omega (arith, sizes)) refl inside body.among
                 (entered_entries R₂ s₁ ins (count_of l s₁) (doing_base rd.base ahead).entries parameter.among)
 
-  __ SYNTHESIZED: an annotation is needed
+  -- SYNTHESIZED: an annotation is needed
   module _ (ann : Annotation) (ea : ann ≡ annotation_of r.tag r.typ) where
     said : (a : Annotation) → ann ≡ a → Doing l R k.0 synth st R (inner st) (fun_synth k.0 c₁ x (saying l R.props a) Γ) (kid_at l c₁, tt) 0 0 0
     unfolding fun_step
-    said a e = doing_same (ap (λ (T : Option Ty). fun_synth k.0 c₁ x T Γ) (sym (annotation-says rd.base.table rd.here r er ann ea rd.base.loaded) ∙ ap (saying l R.props) e)) (begun synth)
+    said a e = doing_same (ap (λ (T : Option Ty). fun_synth k.0 c₁ x T Γ) (sym (annotation_says rd.base.table rd.here r er ann ea rd.base.loaded) ∙ ap (saying l R.props) e)) (begun synth)
 
-    pub function-bare : ann ≡ annotation.Missing → (e : Refusal) → e ≡ record { number = 21; place = k.0 } → Refuses (run_of l R k.0 synth st) e
+    pub function_bare : ann ≡ annotation.Missing → (e : Refusal) → e ≡ record { number = 21; place = k.0 } → Refuses (run_of l R k.0 synth st) e
     unfolding fun_synth obey
-    function-bare q e ee = says 21 k.0 ee (doing_stop (refusal 21 k.0) (said annotation.Missing q) refl)
+    function_bare q e ee = says 21 k.0 ee (doing_stop (refusal 21 k.0) (said annotation.Missing q) refl)
 
-    pub function-resolves : (t : Sort) → ann ≡ annotation.Of t → Counted l × (Loaded l R.props (count_of l st) × (TypeIn (count_of l st) t × ((st.made ≤ limit) × (8 * st.context ≤ length R.work))))
-    function-resolves t et =
-        let among = annotation-among rd.base.table rd.here r er ann ea rd.base.loaded in
+    pub function_resolves : (t : Sort) → ann ≡ annotation.Of t → Counted l × (Loaded l R.props (count_of l st) × (TypeIn (count_of l st) t × ((st.made ≤ limit) × (8 * st.context ≤ length R.work))))
+    function_resolves t et =
+        let among = annotation_among rd.base.table rd.here r er ann ea rd.base.loaded in
         (rd.base.table.counted, (rd.base.loaded, (subst (AnnotationIn (count_of l st)) et among, (rd.base.made, omega (arith, rd.context, rd.base.table.counted.few, rd.base.work_room)))))
 
     module _ (t : Sort) (et : ann ≡ annotation.Of t) (ps : List ℕ) (v : Resolving) (is : ResolvingAs l R.props R.work ps k.0 want.Synth t st v) where
@@ -224,8 +224,8 @@ module _ {l : List ℕ} {R : Rooms} {k : Place} {st : State} (rd : Ready l R k.0
       unfolding fun_synth
       given = said (annotation.Of t) et
 
-      pub function-unresolved : (e : Refusal) → v ≡ resolving.Refused e → Refuses (run_of l R k.0 synth st) e
-      function-unresolved e q = doing_stop (refusal_of e) given (subst (ResolvingAs l R.props R.work ps k.0 want.Synth t st) q is one _ (kid_at l c₁, tt))
+      pub function_unresolved : (e : Refusal) → v ≡ resolving.Refused e → Refuses (run_of l R k.0 synth st) e
+      function_unresolved e q = doing_stop (refusal_of e) given (subst (ResolvingAs l R.props R.work ps k.0 want.Synth t st) q is one _ (kid_at l c₁, tt))
 
       module _ (a : Sort) (s : State) (q : v ≡ resolving.To a s) where
         found : ResolvedTo l R.props R.work ps k.0 want.Synth t st a s
@@ -236,32 +236,32 @@ module _ {l : List ℕ} {R : Rooms} {k : Place} {st : State} (rd : Ready l R k.0
             let mk = inner_making found.making in
             doing_step _ 0 given (making_left R mk) (making_made mk) (making_serials mk) (found.goes one _ (kid_at l c₁, tt))
 
-        pub function-records : s.records < largest
-        function-records = omega (arith, rd.records, sizes, ap (λ (s : State). s.records) found.making.state)
+        pub function_records : s.records < largest
+        function_records = omega (arith, rd.records, sizes, ap (λ (s : State). s.records) found.making.state)
 
         module _ (s₀ : State) (e₀ : s₀ ≡ inner s) where
-          pub function-room : Fresh R.work s₀
-          function-room =
+          pub function_room : Fresh R.work s₀
+          function_room =
               let e : s₀.context ≡ s.context = ap (λ (s : State). s.context) e₀ in
               let g : s₀.serials ≡ st.serials = ap (λ (s : State). s.serials) e₀ ∙ ap (λ (s : State). s.serials) found.making.state in
               let few : s.context < most_entries = few_entries rd numbering in
               (omega (arith, rd.base.work_room), (omega arith, omega (arith, rd.serials, rd.base.table.counted.few, sizes)))
 
-          pub function-asks : (s₁ : State) (work : List ℕ) → (s₁ ≡ deeper (numbered s₀)) × Inserted R.work s₀.context (record { name = r.name1; serial = record { 0 = s₀.serials }; typ = a }) work
+          pub function_asks : (s₁ : State) (work : List ℕ) → (s₁ ≡ deeper (numbered s₀)) × Inserted R.work s₀.context (record { name = r.name1; serial = record { 0 = s₀.serials }; typ = a }) work
               → Asked l R (record { term = k; want = want.Synth; start = st }) (rooms R.tree R.goals ps work) (left.Abstracts (record { 0 = s.serials }) a) c₁ want.Synth s₁
-          function-asks s₁ work en =
+          function_asks s₁ work en =
               let en₁ = subst (λ (s₀ : State). (s₁ ≡ deeper (numbered s₀)) × Inserted R.work s₀.context (record { name = r.name1; serial = record { 0 = s₀.serials }; typ = a }) work) e₀ en in
               let en₂ = subst (λ (r : TermRecord). (s₁ ≡ deeper (numbered (inner s))) × Inserted R.work s.context (record { name = r.name1; serial = record { 0 = s.serials }; typ = a }) work) er en₁ in
               asks_fresh rd tt numbering {A = found.typ} found.stands en₂ (ap (λ (A : Ty). ask synth (entry x s.serials found.typ ∷ Γ) (abstracting l k.0 s.serials A)) (sym found.stands.means))
               (omega arith) (omega (arith, sizes)) (found.stands.among, refl, refl) inside tt
 
-__ THE NODE of a checked function
+-- THE NODE of a checked function
 pub closes_by : {l : List ℕ} {R₀ : Rooms} {f : Rule} {R : Rooms} {T : Sort} {s : State} {n : ℕ} {i : Serial} → Resumed l R₀ f R (left.Closes n i) T s → (found : Sort) → found ≡ answer_of f.want T
     → (nd : Record) → nd ≡ node_rec n f.term.0 found i.0 none 1 → (tr : List ℕ) → Put R.tree f.start.records nd tr
     → RanAs l R₀ (rooms tr R.goals R.props R.work) f.term.0 f.want f.start (ran.Has found s)
 closes_by {f = f} {n = n} {i = i} a found ef nd en tr put = ends_with a (i.0 ∷ []) a.doing found ef nd (en ∙ ap (node_rec n f.term.0 found i.0 none) (sym a.holds)) tr put
 
-__ THE CONCLUSION of a synthesized one, of what its body has
+-- THE CONCLUSION of a synthesized one, of what its body has
 module _ {l : List ℕ} {R₀ : Rooms} {f : Rule} {R : Rooms} {t : Sort} {s : State} {i : Serial} {S : Sort} (a : Resumed l R₀ f R (left.Abstracts i S) t s) (r : TermRecord) (er : r ≡ term_record l f.term.0) where
   abbrev k₂ : ℕ
   k₂ = f.term.0
@@ -290,11 +290,11 @@ module _ {l : List ℕ} {R₀ : Rooms} {f : Rule} {R : Rooms} {t : Sort} {s : St
     unfolding on_prop
     concluding = told (sort.Proposition b) eb
 
-    pub abstracts-full : (e : Refusal) → ab ≡ abstraction.Refused e → Refuses (run_of l R₀ k₂ w f.start) e
-    abstracts-full e q = doing_stop (refusal_of e) concluding (subst (AbstractedAs l R.props ps k₂ (term_record l k₂).name1.0 i.0 S b.0 s) q ia tt)
+    pub abstracts_full : (e : Refusal) → ab ≡ abstraction.Refused e → Refuses (run_of l R₀ k₂ w f.start) e
+    abstracts_full e q = doing_stop (refusal_of e) concluding (subst (AbstractedAs l R.props ps k₂ (term_record l k₂).name1.0 i.0 S b.0 s) q ia tt)
 
-    pub abstracts-to : (n : ℕ) (m : Proposition) (s₁ : State) → ab ≡ abstraction.To n m s₁ → Resumed l R₀ f (rooms R.tree R.goals ps R.work) (left.Closes n i) (sort.Proposition m) s₁
-    abstracts-to n m s₁ q =
+    pub abstracts_to : (n : ℕ) (m : Proposition) (s₁ : State) → ab ≡ abstraction.To n m s₁ → Resumed l R₀ f (rooms R.tree R.goals ps R.work) (left.Closes n i) (sort.Proposition m) s₁
+    abstracts_to n m s₁ q =
         let made : AbstractedTo l R.props ps k₂ (term_record l k₂).name1.0 i.0 S b.0 s n m.0 s₁ = subst (AbstractedAs l R.props ps k₂ (term_record l k₂).name1.0 i.0 S b.0 s) q ia in
         turned a made.stands
         (doing_same (ap (λ (A : Ty). by n k₂ A (i.0 ∷ [])) (sym (answered_synth l R₀.props a.holds.2 (prop made.whole))))

@@ -1,4 +1,4 @@
-__ A rule asks for a child and goes on from its answer: the laws for any rule. Assumes nothing.
+-- A rule asks for a child and goes on from its answer: the laws for any rule. Assumes nothing.
 use mathlib.Core.Path.{◌≡◌, refl, ap, sym, subst, subst⁻¹, ◌∙◌}
 use mathlib.Core.List.{List, [], ◌∷◌}
 use Prim.Native.Nat.{ℕ, suc, ◌+◌, ◌*◌, ◌<◌, ◌≤◌}
@@ -32,7 +32,7 @@ use Rattle.step.specs.Trees.{node_rec, first_serial, second_serial}
 use Rattle.step.specs.Contract.{Ready, Grown, Refuses, RanAs}
 use Rattle.step.specs.Under.{Doing}
 use Rattle.step.proofs.Frames.{type_kept}
-use Rattle.step.proofs.Doing.{nodes_some, leaving_same, doing_base, doing_ctx, doing_same, doing_step, doing_stands, doing_put, doing-has, doing_ready, doing_went, doing_refused}
+use Rattle.step.proofs.Doing.{nodes_some, leaving_same, doing_base, doing_ctx, doing_same, doing_step, doing_stands, doing_put, doing_has, doing_ready, doing_went, doing_refused}
 use Rattle.step.proofs.Moves.{entered_left, entered_entries, entered_ctx}
 use Rattle.rule.specs.declared.next.Rest.{Rest}
 use Rattle.rule.specs.declared.next.Rest.TheVariants as rest
@@ -42,22 +42,22 @@ use Rattle.rule.specs.declared.next.Next.TheVariants as next
 use Rattle.rule.specs.Reading.{after, arity, kids, weight, Inside, pairing, judging, abstracting, instancing, arming, program}
 use Rattle.rule.specs.Going.{Holds, Γ₀, Asked, Resumed, NextIs, Resumes, Fresh, FreshTwo, Held}
 
-__ A REFUSAL that was made of its number and place
+-- A REFUSAL that was made of its number and place
 pub says : {X : Type 0} {o : Out X} {r : Refusal} (n p : ℕ) → r ≡ record { number = n; place = p } → o ≡ refused n p → Refuses o r
 says {o = o} n p e h = subst⁻¹ (λ (r : Refusal). Refuses o r) e h
 
-__ the numbers of the two modes
+-- the numbers of the two modes
 pub of_number : (l ps : List ℕ) (w : Want) (a b : ℕ) → of (mode l ps w) a b ≡ number_of w a b
 unfolding of
 of_number l ps want.Synth a b = refl
 of_number l ps (want.Check E) a b = refl
 
-__ what a synthesis answers is what it found
+-- what a synthesis answers is what it found
 pub answered_synth : (l ps : List ℕ) {w : Want} → w ≡ want.Synth → (A : Ty) → answered (mode l ps w) A ≡ A
 unfolding answered
 answered_synth l ps e A = ap (λ (w : Want). answered (mode l ps w) A) e
 
-__ WHAT IS HELD is read as before once more propositions were made
+-- WHAT IS HELD is read as before once more propositions were made
 module _ (l ps ps' : List ℕ) (k : ℕ) (w : Mode) (Γ : Ctx) (c own wide : ℕ) (v : Want) (types : (T : Sort) → TypeIn c T → reads l ps' T ≡ reads l ps T) (same : (n : ℕ) → n < c → room_at (props l) ps' n ≡ room_at (props l) ps n) where
   program_kept : (q : Rest) → Holds c own wide v q → (B : Ty) → program l ps k w Γ q B ≡ program l ps' k w Γ q B
   program_kept (rest.By n m) h B = refl
@@ -95,7 +95,7 @@ holds_more c d own wide w m (rest.CaseRight i b) h = (omega (arith, h.0), h.1, h
 holds_more c d own wide w m (rest.CaseEnd i j S) h = (type_more c d S m h.0, h.1)
 holds_more c d own wide w m rest.Aborts h = h
 
-__ A CHILD IS ASKED, after j entries of the rule's own
+-- A CHILD IS ASKED, after j entries of the rule's own
 module _ {l : List ℕ} {R₀ : Rooms} {f : Rule} {R : Rooms} {q : Rest} {x : ℕ} {v : Want} where
   pub asks_in : {s z : State} (j : ℕ) {used own wide : ℕ} → Ready l R₀ f.term.0 f.start → WantIn (count_of l f.start) f.want
       → Doing l R₀ f.term.0 (mode l R₀.props f.want) f.start R s (ask (mode l R.props v) (ctx_of l R.props R.work (s.context + j)) (program l R.props f.term.0 (mode l R₀.props f.want) (Γ₀ l R₀ f) q)) (kids l (x ∷ after (term_record l f.term.0) q)) used own wide → z ≡ leaving s (s.context + j)
@@ -121,7 +121,7 @@ module _ {l : List ℕ} {R₀ : Rooms} {f : Rule} {R : Rooms} {q : Rest} {x : �
         among = among;
       })
 
-  __ the same with no entry of its own
+  -- the same with no entry of its own
   pub asks : {s : State} {used own wide : ℕ} → Ready l R₀ f.term.0 f.start → WantIn (count_of l f.start) f.want → Doing l R₀ f.term.0 (mode l R₀.props f.want) f.start R s (ask (mode l R.props v) (Γ₀ l R₀ f) (program l R.props f.term.0 (mode l R₀.props f.want) (Γ₀ l R₀ f) q)) (kids l (x ∷ after (term_record l f.term.0) q)) used own wide
       → own ≤ 2 → 1 + used + (nodes (term_at l x) + weight l (after (term_record l f.term.0) q)) ≤ nodes (term_at l f.term.0) → Holds (count_of l s) own (wide + 1) f.want q → Inside l f.term.0 (x ∷ after (term_record l f.term.0) q)
       → WantIn (count_of l s) v → Asked l R₀ f R q x v s
@@ -131,7 +131,7 @@ module _ {l : List ℕ} {R₀ : Rooms} {f : Rule} {R : Rooms} {q : Rest} {x : �
       asks_in 0 rd wants (doing_same (ap (λ (Γ : Ctx). ask (mode l R.props v) Γ (program l R.props f.term.0 (mode l R₀.props f.want) (Γ₀ l R₀ f) q)) same) d) (leaving_same s (s.context + 0) (sym none)) (omega arith) few fits holds inside among
       (subst⁻¹ (λ (n : ℕ). Entries R.work n (count_of l s)) none (doing_base rd.base d).entries)
 
-  __ IT HAS ANSWERED
+  -- IT HAS ANSWERED
   pub went : {s : State} → Asked l R₀ f R q x v s → {R₁ : Rooms} {T : Sort} {s₁ : State} → RanAs l R R₁ x v s (ran.Has T s₁) → Resumed l R₀ f R₁ q T (leaving s₁ f.start.context)
   went {s} a {R₁} {s₁ = s₁} m =
       let grown : Grown R R₁ (count_of l s) (count_of l s₁) s.records s.goals s.context s.asked = m.accepted.left.grown in
@@ -153,17 +153,17 @@ module _ {l : List ℕ} {R₀ : Rooms} {f : Rule} {R : Rooms} {q : Rest} {x : �
         others = a.others;
       }
 
-  __ OR IT WAS REFUSED
+  -- OR IT WAS REFUSED
   pub stopped : {s : State} → Asked l R₀ f R q x v s → (R₁ : Rooms) (r : Refusal) → RanAs l R R₁ x v s (ran.Refused r) → RanAs l R₀ R₁ f.term.0 f.want f.start (ran.Refused r)
   stopped {s} a R₁ r m = doing_refused x s.context a.doing a.deep refl refl v refl R₁ r m
 
-__ the answer that asks for it: the child as the term's record has it, the counts as they were made
+-- the answer that asks for it: the child as the term's record has it, the counts as they were made
 pub asking : {l : List ℕ} {R₀ R : Rooms} {f : Rule} {q : Rest} {v : Want} {s : State} (j : ℕ) (child : TermRecord → Place) (r : TermRecord) → r ≡ term_record l f.term.0 → (s₁ : State) → s₁ ≡ s → Asked l R₀ f R q (child (term_record l f.term.0)).0 v s
     → length (after (term_record l f.term.0) q) < j → NextIs l R₀ f.term.0 f.want f.start j R (next.Ask f q (child r) v s₁)
 asking {l} {R₀} {R} {f} {q} {v} {s} j child r er s₁ es a less =
     (subst⁻¹ (λ (r : TermRecord). Asked l R₀ f R q (child r).0 v s₁) er (subst⁻¹ (Asked l R₀ f R q (child (term_record l f.term.0)).0 v) es a), (refl, less), λ R' r m. m)
 
-__ IN THE RULE'S OWN MODE
+-- IN THE RULE'S OWN MODE
 module _ {l : List ℕ} {R₀ : Rooms} {k : ℕ} {st₀ : State} {R : Rooms} {s : State} {a : Arity} {p : Prog a} {ks : Kids a} {used own wide : ℕ} where
   pub mode_kept : (w : Want) → Ready l R₀ k st₀ → WantIn (count_of l st₀) w → Doing l R₀ k (mode l R₀.props w) st₀ R s p ks used own wide → mode l R₀.props w ≡ mode l R.props w
   mode_kept want.Synth rd wants d = refl
@@ -173,7 +173,7 @@ module _ {l : List ℕ} {R₀ : Rooms} {k : ℕ} {st₀ : State} {R : Rooms} {s 
   wants_kept want.Synth rd wants d = tt
   wants_kept (want.Check E) rd wants d = (doing_stands {T = E} rd.base d (record { among = wants; means = refl })).among
 
-__ A FRESH IDENTIFIER of the type T, and its entry
+-- A FRESH IDENTIFIER of the type T, and its entry
 module _ {l : List ℕ} {R₀ : Rooms} {k : ℕ} {w : Mode} {st₀ : State} {R : Rooms} {s : State} (rd : Ready l R₀ k st₀) where
   pub few_entries : {a : Arity} {p : Prog a} {ks : Kids a} {used own wide : ℕ} → Doing l R₀ k w st₀ R s p ks used own wide → s.context < most_entries
   few_entries d = omega (arith, rd.context, rd.base.table.counted.few, nodes_some (term_at l k), d.left.context)
@@ -188,8 +188,8 @@ module _ {l : List ℕ} {R₀ : Rooms} {k : ℕ} {w : Mode} {st₀ : State} {R :
         doing_step (κ s.serials) 1 d (record { records = a.records; goals = a.goals; context = a.context; asked = a.asked; trees = a.trees; pictures = a.pictures; grown = a.grown }) d.made (omega arith)
         (λ i. obey (κ s.serials) ks (record { serials = e i; made = s.made }))
 
-    fresh-ctx : entry x.0 s.serials A ∷ ctx_of l R₀.props R₀.work st₀.context ≡ ctx_of l R.props work' (s.context + 1)
-    fresh-ctx =
+    fresh_ctx : entry x.0 s.serials A ∷ ctx_of l R₀.props R₀.work st₀.context ≡ ctx_of l R.props work' (s.context + 1)
+    fresh_ctx =
         let e : ctx_of l R.props R.work s.context ≡ ctx_of l R₀.props R₀.work st₀.context = ap (ctx_of l R.props R.work) d.left.context ∙ doing_ctx rd.base d in
         sym (entered_ctx R s en.1 l ∙ (λ i. entry x.0 s.serials (stands.means i) ∷ e i))
 
@@ -201,10 +201,10 @@ module _ {l : List ℕ} {R₀ : Rooms} {f : Rule} {R : Rooms} {q : Rest} {x : �
       → own ≤ 1 → 1 + used + (nodes (term_at l x) + weight l (after (term_record l f.term.0) q)) ≤ nodes (term_at l f.term.0) → Holds (count_of l s) (own + 1) (wide + 1) f.want q → Inside l f.term.0 (x ∷ after (term_record l f.term.0) q)
       → WantIn (count_of l s) v → Asked l R₀ f (rooms R.tree R.goals R.props work') q x v s₁
   asks_fresh stands en goes few fits holds inside among =
-      asks_in 1 rd wants (doing_same (goes ∙ ap (λ (Γ : Ctx). ask (mode l R.props v) Γ (program l R.props f.term.0 (mode l R₀.props f.want) (Γ₀ l R₀ f) q)) (fresh-ctx rd d stands en)) (fresh rd d stands en)) en.0 (omega arith)
+      asks_in 1 rd wants (doing_same (goes ∙ ap (λ (Γ : Ctx). ask (mode l R.props v) Γ (program l R.props f.term.0 (mode l R₀.props f.want) (Γ₀ l R₀ f) q)) (fresh_ctx rd d stands en)) (fresh rd d stands en)) en.0 (omega arith)
       (omega arith) fits holds inside among (entered_entries R s en.1 (count_of l s) (doing_base rd.base d).entries stands.among)
 
-__ THE END
+-- THE END
 module _ {l : List ℕ} {R₀ : Rooms} {f : Rule} {R : Rooms} {T : Sort} {s : State} {q : Rest} (a : Resumed l R₀ f R q T s) where
   pub resumed_put : 16 * f.start.records + 16 ≤ length R.tree
   resumed_put = doing_put a.begun a.doing
@@ -212,7 +212,7 @@ module _ {l : List ℕ} {R₀ : Rooms} {f : Rule} {R : Rooms} {T : Sort} {s : St
   pub resumed_base : Base l R s
   resumed_base = doing_base a.begun.base a.doing
 
-  __ an entry more, and two
+  -- an entry more, and two
   pub room_for : a.own ≤ 1 → Fresh R.work s
   room_for few =
       let rd = a.begun in
@@ -234,14 +234,14 @@ module _ {l : List ℕ} {R₀ : Rooms} {f : Rule} {R : Rooms} {T : Sort} {s : St
       at want.Synth h d = a.stands
       at (want.Check E) h d = doing_stands a.begun.base d (record { among = h; means = refl })
 
-__ one node, whatever it says
+-- one node, whatever it says
 pub concludes : {l : List ℕ} {R₀ : Rooms} (f : Rule) {R : Rooms} {s : State} {A B : Ty} {n : ℕ} {is : List ℕ} {used own wide : ℕ} (S U : Sort)
     → Doing l R₀ f.term.0 (mode l R₀.props f.want) f.start R s (conclude B (record { rule = n; term = f.term.0; concludes = A; serials = is } ∷ [])) tt used own wide → Stands l R.props (count_of l s) S A
     → Stands l R.props (count_of l s) U (answered (mode l R₀.props f.want) B) → {nd : Record} {tr : List ℕ} → nd ≡ node_rec n f.term.0 S (first_serial is) (second_serial is) wide → Put R.tree f.start.records nd tr
     → RanAs l R₀ (rooms tr R.goals R.props R.work) f.term.0 f.want f.start (ran.Has U s)
-concludes f S U d stands answers e put = doing-has d {T = S} stands e put answers
+concludes f S U d stands answers e put = doing_has d {T = S} stands e put answers
 
-__ of what is answered
+-- of what is answered
 answered_twice : (w : Mode) (B : Ty) → answered w B ≡ answered w (answered w B)
 unfolding answered
 answered_twice synth B = refl
@@ -257,7 +257,7 @@ module _ {l : List ℕ} {R₀ : Rooms} {f : Rule} {R : Rooms} {T : Sort} {s : St
       let stands : Stands l R.props (count_of l s) found (answered w a.typ) = subst⁻¹ (λ (U : Sort). Stands l R.props (count_of l s) U (answered w a.typ)) ef (answer_stands a) in
       concludes f found found d stands (subst (Stands l R.props (count_of l s) found) (answered_twice w a.typ) stands) en put
 
-  __ the rule goes on with other propositions, of a type that it made
+  -- the rule goes on with other propositions, of a type that it made
   pub turned : {R' : Rooms} {q' : Rest} {T' : Sort} {A' : Ty} {s' : State} {own wide : ℕ} → Stands l R'.props (count_of l s') T' A'
       → Doing l R₀ f.term.0 (mode l R₀.props f.want) f.start R' s' (program l R'.props f.term.0 (mode l R₀.props f.want) (Γ₀ l R₀ f) q' A') (kids l (after (term_record l f.term.0) q')) a.used own wide
       → weight l (after (term_record l f.term.0) q') ≤ weight l (after (term_record l f.term.0) q) → Holds (count_of l s') own wide f.want q' → Inside l f.term.0 (after (term_record l f.term.0) q') → Resumed l R₀ f R' q' T' s'
@@ -276,11 +276,11 @@ module _ {l : List ℕ} {R₀ : Rooms} {f : Rule} {R : Rooms} {T : Sort} {s : St
         others = inside;
       }
 
-__ A REST THAT WAS TOLD by a match
+-- A REST THAT WAS TOLD by a match
 pub resumes_as : {l : List ℕ} {R R' : Rooms} {f : Rule} {q q' : Rest} {T : Sort} {s : State} {n : Next} → q ≡ q' → Resumes l R R' f q' T s n → Resumes l R R' f q T s n
 resumes_as {l} {R} {R'} {f} {T = T} {s = s} {n = n} e r = subst⁻¹ (λ (q : Rest). Resumes l R R' f q T s n) e r
 
-__ what the pieces ask of a rest
+-- what the pieces ask of a rest
 pub held : {l : List ℕ} {R₀ : Rooms} {f : Rule} {R : Rooms} {T : Sort} {s : State} (q : Rest) → Resumed l R₀ f R q T s → Held (count_of l s) R.work s q
 held (rest.By n m) a = tt
 held (rest.Right n b) a = tt

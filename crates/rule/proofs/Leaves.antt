@@ -1,4 +1,4 @@
-__ The rules without premises: Unit, Sorry, Ident. Assumes nothing.
+-- The rules without premises: Unit, Sorry, Ident. Assumes nothing.
 use mathlib.Core.Path.{◌≡◌, refl, ap, sym, subst, subst⁻¹, ◌∙◌}
 use mathlib.Core.Bool.{Bool, true, false, cond}
 use mathlib.Core.List.{List, [], ◌∷◌}
@@ -42,53 +42,53 @@ use Rattle.step.specs.Contract.{Ready, Left, Refuses, run_of, RanAs}
 use Rattle.step.specs.Under.{rest, Doing}
 use Rattle.step.proofs.Bounds.{ready_context}
 use Rattle.step.proofs.Holes.{pictured_hole, pictured_entries, pictured_earlier, pictured_size}
-use Rattle.step.proofs.Doing.{doing_start, doing_step, doing_stop, doing-has}
+use Rattle.step.proofs.Doing.{doing_start, doing_step, doing_stop, doing_has}
 use Rattle.step.proofs.Moves.{GrownTo, MadeFor, made_for, made_goes, full_stops, making_left, making_serials}
-use Rattle.step.proofs.Terms.{leaf_begins, is-ident, is-unit, is-sorry}
+use Rattle.step.proofs.Terms.{leaf_begins, is_ident, is_unit, is_sorry}
 use Rattle.rule.proofs.Going.{says}
 
 module _ {l : List ℕ} {R : Rooms} {k : ℕ} {st : State} (rd : Ready l R k st) where
   abbrev Γ : Ctx
   Γ = ctx_of l R.props R.work st.context
 
-  __ a leaf of the term, once its program is known
+  -- a leaf of the term, once its program is known
   leaf_doing : (w : Want) (s : Leaf) (q : Prog done) → term_at l k ≡ leaf k s → leaf_step k s w Γ ≡ q → Doing l R k w st R (inner st) q tt 0 0 0
   leaf_doing w s q e h = doing_start q tt rd (leaf_begins l k R w st s e ∙ ap (λ (q : Prog done). rest w end (obey q tt (st_of st))) h)
 
-  __ UNIT, held to a type
+  -- UNIT, held to a type
   module _ (wanted : Sort) (among : TypeIn (count_of l st) wanted) (kind : (term_record l k).kind ≡ 11) (b : Bool) (is : (tables : ℕ) → b ≡ eq (type_at tables R.props wanted) (prop (const made true))) where
     abbrev A : Ty
     A = reads l R.props wanted
 
-    unit-doing : (c : Bool) → b ≡ c → Doing l R k (check A) st R (inner st) (cond c (by 1 k A []) (refuse 11 k)) tt 0 0 0
+    unit_doing : (c : Bool) → b ≡ c → Doing l R k (check A) st R (inner st) (cond c (by 1 k A []) (refuse 11 k)) tt 0 0 0
     unfolding leaf_step unit_step
-    unit-doing c e = leaf_doing (check A) Leaf.unit _ (is-unit rd.base.table rd.here kind) (ap (λ (d : Bool). cond d (by 1 k A []) (refuse 11 k)) (sym (is (props l)) ∙ e))
+    unit_doing c e = leaf_doing (check A) Leaf.unit _ (is_unit rd.base.table rd.here kind) (ap (λ (d : Bool). cond d (by 1 k A []) (refuse 11 k)) (sym (is (props l)) ∙ e))
 
-    pub unit-fits : b ≡ true → (nd : Record) (tr : List ℕ) (s : State) → nd ≡ node_rec 1 k wanted none none 0 → Put R.tree st.records nd tr → s ≡ inner st
+    pub unit_fits : b ≡ true → (nd : Record) (tr : List ℕ) (s : State) → nd ≡ node_rec 1 k wanted none none 0 → Put R.tree st.records nd tr → s ≡ inner st
         → RanAs l R (rooms tr R.goals R.props R.work) k (want.Check wanted) st (ran.Has wanted s)
     unfolding by answered
-    unit-fits e nd tr s en put es =
+    unit_fits e nd tr s en put es =
         subst⁻¹ (λ (s : State). RanAs l R (rooms tr R.goals R.props R.work) k (want.Check wanted) st (ran.Has wanted s)) es
-        (doing-has (unit-doing true e) {T = wanted} (record { among = among; means = refl }) en put (record { among = among; means = refl }))
+        (doing_has (unit_doing true e) {T = wanted} (record { among = among; means = refl }) en put (record { among = among; means = refl }))
 
-    pub unit-other : b ≡ false → (r : Refusal) → r ≡ record { number = 11; place = k } → Refuses (run_of l R k (check A) st) r
+    pub unit_other : b ≡ false → (r : Refusal) → r ≡ record { number = 11; place = k } → Refuses (run_of l R k (check A) st) r
     unfolding obey
-    unit-other e r er = says 11 k er (doing_stop (refusal 11 k) (unit-doing false e) refl)
+    unit_other e r er = says 11 k er (doing_stop (refusal 11 k) (unit_doing false e) refl)
 
-  __ SORRY, held to a type
+  -- SORRY, held to a type
   module _ (wanted : Sort) (among : TypeIn (count_of l st) wanted) (kind : (term_record l k).kind ≡ 13) where
     abbrev hole : Trees
     hole = gap (record { term = k; ctx = Γ; wanted = reads l R.props wanted; state = st_of st }) end
 
-    sorry-answers : run_of l R k (check (reads l R.props wanted)) st ≡ ok (record { ty = reads l R.props wanted; tree = hole }) (st_of st)
+    sorry_answers : run_of l R k (check (reads l R.props wanted)) st ≡ ok (record { ty = reads l R.props wanted; tree = hole }) (st_of st)
     unfolding run sorry_run
-    sorry-answers = ap (λ (u : Term). run u (check (reads l R.props wanted)) Γ (st_of st)) (is-sorry rd.base.table rd.here kind)
+    sorry_answers = ap (λ (u : Term). run u (check (reads l R.props wanted)) Γ (st_of st)) (is_sorry rd.base.table rd.here kind)
 
     module _ (nd : Record) (tr : List ℕ) (g : Goal) (gs : List ℕ) (en : nd ≡ node_rec 15 k wanted none none 0) (put : Put R.tree st.records nd tr) (eg : g ≡ goal_rec k wanted st.context) (put' : PutGoal R.goals st.goals g gs)
         (work : List ℕ) (shown : Pictured R.work wanted st work) where
-      sorry-left : Left l R (rooms tr gs R.props work) st (record { records = st.records + 1; goals = st.goals + 1; serials = st.serials; made = st.made; context = st.context; asked = st.asked }) hole
+      sorry_left : Left l R (rooms tr gs R.props work) st (record { records = st.records + 1; goals = st.goals + 1; serials = st.serials; made = st.made; context = st.context; asked = st.asked }) hole
       unfolding TreesAre PicturesAre records holes
-      sorry-left =
+      sorry_left =
           record {
             records = omega arith;
             goals = omega arith;
@@ -120,58 +120,58 @@ module _ {l : List ℕ} {R : Rooms} {k : ℕ} {st : State} (rd : Ready l R k st)
                 };
           }
 
-      pub sorry-fits : (s : State) → s ≡ record { records = st.records + 1; goals = st.goals + 1; serials = st.serials; made = st.made; context = st.context; asked = st.asked }
+      pub sorry_fits : (s : State) → s ≡ record { records = st.records + 1; goals = st.goals + 1; serials = st.serials; made = st.made; context = st.context; asked = st.asked }
           → RanAs l R (rooms tr gs R.props work) k (want.Check wanted) st (ran.Has wanted s)
-      sorry-fits s es =
+      sorry_fits s es =
           subst⁻¹ (λ (s : State). RanAs l R (rooms tr gs R.props work) k (want.Check wanted) st (ran.Has wanted s)) es
           (record {
-            accepted = record { answer = record { ty = reads l R.props wanted; tree = hole }; accepts = sorry-answers; left = sorry-left };
+            accepted = record { answer = record { ty = reads l R.props wanted; tree = hole }; accepts = sorry_answers; left = sorry_left };
             type = record { among = among; means = refl };
           })
 
-  __ IDENT, asked for its type
+  -- IDENT, asked for its type
   module _ (kind : (term_record l k).kind ≡ 0) (r : TermRecord) (er : r ≡ term_record l k) (f : Found) (latest : Latest R.work st.context r.name1.0 f) where
     is : Latest R.work st.context (term_record l k).name1.0 f
     is = subst (λ (r : TermRecord). Latest R.work st.context r.name1.0 f) er latest
 
-    ident-doing : (o : Option Hypothesis) → find (term_record l k).name1.0 Γ ≡ o → Doing l R k synth st R (inner st) (on_found o (λ e. by 0 k e.ty (e.serial ∷ [])) (refuse 20 k)) tt 0 0 0
+    ident_doing : (o : Option Hypothesis) → find (term_record l k).name1.0 Γ ≡ o → Doing l R k synth st R (inner st) (on_found o (λ e. by 0 k e.ty (e.serial ∷ [])) (refuse 20 k)) tt 0 0 0
     unfolding leaf_step ident_step ident_synth look_up
-    ident-doing o e =
-        leaf_doing synth (Leaf.ident (term_record l k).name1.0) _ (is-ident rd.base.table rd.here kind)
+    ident_doing o e =
+        leaf_doing synth (Leaf.ident (term_record l k).name1.0) _ (is_ident rd.base.table rd.here kind)
         (ap (λ (o : Option Hypothesis). on_found o (λ e. by 0 k e.ty (e.serial ∷ [])) (refuse 20 k)) e)
 
-    pub ident-unknown : f ≡ Nothing → (x : Refusal) → x ≡ record { number = 20; place = k } → Refuses (run_of l R k synth st) x
+    pub ident_unknown : f ≡ Nothing → (x : Refusal) → x ≡ record { number = 20; place = k } → Refuses (run_of l R k synth st) x
     unfolding obey on_found
-    ident-unknown e x ex = says 20 k ex (doing_stop (refusal 20 k) (ident-doing no-entry (nothing_finds (reads l R.props) is e)) refl)
+    ident_unknown e x ex = says 20 k ex (doing_stop (refusal 20 k) (ident_doing no-entry (nothing_finds (reads l R.props) is e)) refl)
 
-    pub ident-has : (e : Entry) → f ≡ Held e → (nd : Record) (tr : List ℕ) (s : State) → nd ≡ node_rec 0 k e.typ e.serial.0 none 0 → Put R.tree st.records nd tr → s ≡ inner st
+    pub ident_has : (e : Entry) → f ≡ Held e → (nd : Record) (tr : List ℕ) (s : State) → nd ≡ node_rec 0 k e.typ e.serial.0 none 0 → Put R.tree st.records nd tr → s ≡ inner st
         → RanAs l R (rooms tr R.goals R.props R.work) k want.Synth st (ran.Has e.typ s)
     unfolding by on_found answered
-    ident-has e q nd tr s en put es =
+    ident_has e q nd tr s en put es =
         let means : Stands l R.props (count_of l st) e.typ (reads l R.props e.typ) =
         record { among = held_has (λ (e : Entry). TypeIn (count_of l st) e.typ) is q rd.base.entries; means = refl } in
         subst⁻¹ (λ (s : State). RanAs l R (rooms tr R.goals R.props R.work) k want.Synth st (ran.Has e.typ s)) es
-        (doing-has (ident-doing (some (stands (reads l R.props) e)) (held_finds (reads l R.props) is q)) {T = e.typ} means en put {U = e.typ} means)
+        (doing_has (ident_doing (some (stands (reads l R.props) e)) (held_finds (reads l R.props) is q)) {T = e.typ} means en put {U = e.typ} means)
 
-  __ UNIT, asked for its type
+  -- UNIT, asked for its type
   module _ (kind : (term_record l k).kind ≡ 11) (new : List ℕ) (c left : ℕ) (o : Made) (ec : c ≡ count_of l st) (el : left + st.made ≡ limit) (is : ConstantIs true R.props c left new o) where
-    true-doing : Doing l R k synth st R (inner st) (make 1 k (by 1 k (prop (const made true)) [])) tt 0 0 0
+    true_doing : Doing l R k synth st R (inner st) (make 1 k (by 1 k (prop (const made true)) [])) tt 0 0 0
     unfolding leaf_step unit_step
-    true-doing = leaf_doing synth Leaf.unit _ (is-unit rd.base.table rd.here kind) refl
+    true_doing = leaf_doing synth Leaf.unit _ (is_unit rd.base.table rd.here kind) refl
 
-    pub true-full : o ≡ Full → (r : Refusal) → r ≡ record { number = 30; place = k } → Refuses (run_of l R k synth st) r
-    true-full q r er = says 30 k er (doing_stop (refusal 30 k) true-doing (full_stops l R.props new c left (inner st) _ _ o ec el is q k (by 1 k (prop (const made true)) []) tt))
+    pub true_full : o ≡ Full → (r : Refusal) → r ≡ record { number = 30; place = k } → Refuses (run_of l R k synth st) r
+    true_full q r er = says 30 k er (doing_stop (refusal 30 k) true_doing (full_stops l R.props new c left (inner st) _ _ o ec el is q k (by 1 k (prop (const made true)) []) tt))
 
     module _ (s : State) (m : Proposition) (e : ℕ) (q : o ≡ At m e) (grown : GrownTo st c e s) where
-      true-made : MadeFor l R.props new (inner st) (inner s) 1 (const made true) m
-      true-made = made_for l R.props new c left (inner st) _ _ o ec el is (inner s) m e q (grown.0, ap (λ (n : ℕ). n + 1) grown.1, grown.2, grown.3, grown.4, grown.5)
+      true_made : MadeFor l R.props new (inner st) (inner s) 1 (const made true) m
+      true_made = made_for l R.props new c left (inner st) _ _ o ec el is (inner s) m e q (grown.0, ap (λ (n : ℕ). n + 1) grown.1, grown.2, grown.3, grown.4, grown.5)
 
-      pub true-has : (nd : Record) (tr : List ℕ) (s₁ : State) → nd ≡ node_rec 1 k (sort.Proposition m) none none 0 → Put R.tree st.records nd tr → s₁ ≡ inner s
+      pub true_has : (nd : Record) (tr : List ℕ) (s₁ : State) → nd ≡ node_rec 1 k (sort.Proposition m) none none 0 → Put R.tree st.records nd tr → s₁ ≡ inner s
           → RanAs l R (rooms tr R.goals new R.work) k want.Synth st (ran.Has (sort.Proposition m) s₁)
       unfolding by answered
-      true-has nd tr s₁ en put es =
-          let mk = true-made.making in
-          let stands = true-made.stands in
+      true_has nd tr s₁ en put es =
+          let mk = true_made.making in
+          let stands = true_made.stands in
           subst⁻¹ (λ (s : State). RanAs l R (rooms tr R.goals new R.work) k want.Synth st (ran.Has (sort.Proposition m) s)) es
-          (doing-has (doing_step (by 1 k (prop (const made true)) []) 0 true-doing (making_left R mk) mk.within (making_serials mk) (made_goes true-made k (by 1 k (prop (const made true)) []) tt))
+          (doing_has (doing_step (by 1 k (prop (const made true)) []) 0 true_doing (making_left R mk) mk.within (making_serials mk) (made_goes true_made k (by 1 k (prop (const made true)) []) tt))
           {T = sort.Proposition m} stands en put {U = sort.Proposition m} stands)

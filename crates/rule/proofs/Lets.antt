@@ -1,4 +1,4 @@
-__ LetIn, piece by piece, in either mode. Assumes nothing.
+-- LetIn, piece by piece, in either mode. Assumes nothing.
 use mathlib.Core.Path.{◌≡◌, refl, ap, sym, subst, subst⁻¹, ◌∙◌}
 use mathlib.Core.List.{List, [], ◌∷◌}
 use Prim.Native.Nat.{ℕ, ◌+◌}
@@ -35,13 +35,13 @@ use Rattle.step.specs.Contract.{Ready, Left, refusal_of, Refuses, run_of, RanAs}
 use Rattle.step.specs.Under.{Doing, kid_at}
 use Rattle.step.proofs.Frames.{left_none}
 use Rattle.step.proofs.Doing.{doing_start, doing_base, doing_ctx, doing_step, doing_same, doing_stop}
-use Rattle.step.proofs.Terms.{double_begins, double_nodes, is-let, let-first, let-second}
+use Rattle.step.proofs.Terms.{double_begins, double_nodes, is_let, let_first, let_second}
 use Rattle.rule.specs.declared.next.Rule.{Rule}
 use Rattle.rule.specs.declared.next.Rest.TheVariants as rest
 use Rattle.rule.specs.Going.{Γ₀, Asked, Resumed}
 use Rattle.rule.proofs.Going.{of_number, asks, asks_in, mode_kept, wants_kept, concludes, answer_stands}
 
-__ THE HEAD is asked
+-- THE HEAD is asked
 pub let_begins : {l : List ℕ} {R : Rooms} {k : Place} {st : State} {w : Want} → Ready l R k.0 st → (term_record l k.0).kind ≡ 6 → WantIn (count_of l st) w
     → Asked l R (record { term = k; want = w; start = st }) R rest.LetBody (term_record l k.0).child1.0 want.Synth (inner st)
 unfolding double_step let_step
@@ -50,10 +50,10 @@ let_begins {l} {R} {k} {st} {w} rd kind wants =
     let r = term_record l k.0 in
     asks rd wants
     (doing_start _ (kid_at l r.child1.0, (kid_at l r.child2.0, tt)) rd
-    (double_begins l k.0 R (mode l R.props w) st (Double.let_in r.name1.0 r.name2.0) r.child1.0 r.child2.0 (is-let t rd.here kind)))
-    (omega arith) (omega (arith, double_nodes (is-let t rd.here kind))) (refl, refl) (let-first t rd.here kind, (let-second t rd.here kind, tt)) tt
+    (double_begins l k.0 R (mode l R.props w) st (Double.let_in r.name1.0 r.name2.0) r.child1.0 r.child2.0 (is_let t rd.here kind)))
+    (omega arith) (omega (arith, double_nodes (is_let t rd.here kind))) (refl, refl) (let_first t rd.here kind, (let_second t rd.here kind, tt)) tt
 
-__ THE BODY, once the head is opened
+-- THE BODY, once the head is opened
 module _ {l : List ℕ} {R₀ : Rooms} {f : Rule} {R : Rooms} {t : Sort} {s : State} (a : Resumed l R₀ f R rest.LetBody t s) (r : TermRecord) (er : r ≡ term_record l f.term.0) (ps' work' : List ℕ) (o : Entered)
     (m₀ : EnteredAs l R.props R.work ps' work' r.name1.0 r.name2.0 f.want t f.term.0 r.child1.0 s o) where
   abbrev k : ℕ
@@ -96,9 +96,9 @@ module _ {l : List ℕ} {R₀ : Rooms} {f : Rule} {R : Rooms} {t : Sort} {s : St
     abbrev s' : State
     s' = leaving s₁ s.context
 
-    opened-left : Left l R R₂ s s' end
+    opened_left : Left l R R₂ s s' end
     unfolding TreesAre PicturesAre records holes
-    opened-left =
+    opened_left =
         let er = ap (λ (s : State). s.records) new.state in
         let eg = ap (λ (s : State). s.goals) new.state in
         let em = ap (λ (s : State). s.made) new.state in
@@ -128,28 +128,28 @@ module _ {l : List ℕ} {R₀ : Rooms} {f : Rule} {R : Rooms} {t : Sort} {s : St
     opened : Doing l R₀ k w f.start R₂ s' (within s.serials (s.serials + 1) new.datatype new.body) (kid_at l c₂, tt) a.used (a.own + 2) a.wide
     opened =
         let es = ap (λ (s : State). s.serials) new.state in
-        doing_step _ 2 head opened-left new.within (omega arith) (new.goes one within (kid_at l c₂, tt))
+        doing_step _ 2 head opened_left new.within (omega arith) (new.goes one within (kid_at l c₂, tt))
 
-    two-more : s₁.context ≡ s.context + 2
-    two-more = ap (λ (s : State). s.context) new.state
+    two_more : s₁.context ≡ s.context + 2
+    two_more = ap (λ (s : State). s.context) new.state
 
     outer : ctx_of l ps' R.work s.context ≡ Γ₀ l R₀ f
     outer = sym (ctx_same (reads l ps') R.work work' s.context new.kept) ∙ ap (ctx_of l ps' work') a.doing.left.context ∙ doing_ctx a.begun.base opened
 
     inside : entry y (s.serials + 1) (prop new.body) ∷ entry x s.serials (datatype new.datatype) ∷ Γ₀ l R₀ f ≡ ctx_of l ps' work' (s'.context + 2)
-    inside = sym (ap (ctx_of l ps' work') (sym two-more) ∙ new.context ∙ ap (λ (Γ : Ctx). entry y (s.serials + 1) (prop new.body) ∷ entry x s.serials (datatype new.datatype) ∷ Γ) outer)
+    inside = sym (ap (ctx_of l ps' work') (sym two_more) ∙ new.context ∙ ap (λ (Γ : Ctx). entry y (s.serials + 1) (prop new.body) ∷ entry x s.serials (datatype new.datatype) ∷ Γ) outer)
 
-    deeper-by : s₁ ≡ leaving s' (s'.context + 2)
-    deeper-by z = record { records = s₁.records; goals = s₁.goals; serials = s₁.serials; made = s₁.made; context = two-more z; asked = s₁.asked }
+    deeper_by : s₁ ≡ leaving s' (s'.context + 2)
+    deeper_by z = record { records = s₁.records; goals = s₁.goals; serials = s₁.serials; made = s₁.made; context = two_more z; asked = s₁.asked }
 
-    pub let-asks : Asked l R₀ f R₂ (rest.LetEnd (record { 0 = s.serials }) (record { 0 = s.serials + 1 })) c₂ f.want s₁
-    let-asks =
+    pub let_asks : Asked l R₀ f R₂ (rest.LetEnd (record { 0 = s.serials }) (record { 0 = s.serials + 1 })) c₂ f.want s₁
+    let_asks =
         asks_in 2 a.begun a.wants
         (doing_same (λ z. ask (mode_kept f.want a.begun a.wants opened z) (inside z) λ T. let_close k c₂ s.serials (s.serials + 1) w T) opened)
-        deeper-by (omega arith) (omega (arith, a.holds.1)) a.fits (omega (arith, a.holds.0)) a.others (wants_kept f.want a.begun a.wants opened)
-        (subst (λ (n : ℕ). Entries work' n (count_of l s₁)) two-more (new.entries (doing_base a.begun.base a.doing).entries))
+        deeper_by (omega arith) (omega (arith, a.holds.1)) a.fits (omega (arith, a.holds.0)) a.others (wants_kept f.want a.begun a.wants opened)
+        (subst (λ (n : ℕ). Entries work' n (count_of l s₁)) two_more (new.entries (doing_base a.begun.base a.doing).entries))
 
-__ THE END, of what the body has
+-- THE END, of what the body has
 module _ {l : List ℕ} {R₀ : Rooms} {f : Rule} {R : Rooms} {t : Sort} {s : State} {i j : Serial} (a : Resumed l R₀ f R (rest.LetEnd i j) t s) (r : TermRecord) (er : r ≡ term_record l f.term.0) (o : Closed)
     (m₀ : ClosedAs l R.props f.want r.child2.0 i.0 t s o) where
   abbrev k₂ : ℕ

@@ -1,4 +1,4 @@
-__ OrLeft and OrRight, held to a type. Assumes nothing.
+-- OrLeft and OrRight, held to a type. Assumes nothing.
 use mathlib.Core.Path.{◌≡◌, refl, ap, sym, subst, ◌∙◌}
 use mathlib.Core.Bool.{Bool, true, false, cond}
 use mathlib.Core.List.{List, []}
@@ -32,13 +32,13 @@ use Rattle.step.specs.Contract.{Ready, Refuses, run_of}
 use Rattle.step.specs.Under.{rest, Doing, kid_at}
 use Rattle.step.proofs.Programs.{rest_refused}
 use Rattle.step.proofs.Doing.{doing_start}
-use Rattle.step.proofs.Terms.{single_begins, single_nodes, is-left, is_right, left-child, right_child}
+use Rattle.step.proofs.Terms.{single_begins, single_nodes, is_left, is_right, left_child, right_child}
 use Rattle.rule.specs.declared.next.Rule.{Rule}
 use Rattle.rule.specs.declared.next.Rest.TheVariants as left
 use Rattle.rule.specs.Going.{Asked}
 use Rattle.rule.proofs.Going.{says, asks}
 
-__ THE TWO KINDS, 7 and 8, in either mode
+-- THE TWO KINDS, 7 and 8, in either mode
 module _ {l : List ℕ} {R : Rooms} {k : ℕ} {st : State} (rd : Ready l R k st) (kind : (6 < (term_record l k).kind) × ((term_record l k).kind < 9)) where
   abbrev K : ℕ
   K = (term_record l k).kind
@@ -59,7 +59,7 @@ module _ {l : List ℕ} {R : Rooms} {k : ℕ} {st : State} (rd : Ready l R k st)
     where
       at : (K ≡ 7) ⊎ (K ≡ 8) → run_of l R k w st ≡ rest w end (obey (inject_step k (eqb K 7) w (ctx_of l R.props R.work st.context)) (kid_at l c₁, tt) (st_of st))
       at (inl e) =
-          single_begins l k R w st _ c₁ (is-left rd.base.table rd.here e)
+          single_begins l k R w st _ c₁ (is_left rd.base.table rd.here e)
           ∙ sym (ap (λ (K : ℕ). rest w end (obey (inject_step k (eqb K 7) w (ctx_of l R.props R.work st.context)) (kid_at l c₁, tt) (st_of st))) e)
       at (inr e) =
           single_begins l k R w st _ c₁ (is_right rd.base.table rd.here e)
@@ -69,10 +69,10 @@ module _ {l : List ℕ} {R : Rooms} {k : ℕ} {st : State} (rd : Ready l R k st)
   child = at sides
     where
       at : (K ≡ 7) ⊎ (K ≡ 8) → ((k < c₁) × (c₁ < terms l)) × (nodes (term_at l k) ≡ 1 + nodes (term_at l c₁))
-      at (inl e) = (left-child rd.base.table rd.here e, single_nodes (is-left rd.base.table rd.here e))
+      at (inl e) = (left_child rd.base.table rd.here e, single_nodes (is_left rd.base.table rd.here e))
       at (inr e) = (right_child rd.base.table rd.here e, single_nodes (is_right rd.base.table rd.here e))
 
-__ AGAINST AN OR
+-- AGAINST AN OR
 module _ {l : List ℕ} {R : Rooms} {k : Place} {st : State} (rd : Ready l R k.0 st) (wanted : Sort) (among : TypeIn (count_of l st) wanted) (kind : (6 < (term_record l k.0).kind) × ((term_record l k.0).kind < 9))
     (count : ℕ) (ec : count ≡ count_of l st) (sp : Parts) (is : SplitAs or R.props count wanted sp) where
   abbrev Γ : Ctx
@@ -100,7 +100,7 @@ module _ {l : List ℕ} {R : Rooms} {k : Place} {st : State} (rd : Ready l R k.0
     split : Split or R.props count wanted a.0 b.0
     split = subst (SplitAs or R.props count wanted) e is
 
-    __ what is asked of the child, and which rule concludes
+    -- what is asked of the child, and which rule concludes
     abbrev part : Proposition → ℕ → Prog one
     part p n = ask (check (prop (room_at (props l) R.props p.0))) Γ λ _. by n k.0 A []
 
@@ -111,10 +111,10 @@ module _ {l : List ℕ} {R : Rooms} {k : Place} {st : State} (rd : Ready l R k.0
         (injects rd kind (check A)
         ∙ ap (λ (q : Prog one). rest (check A) end (obey q (kid_at l c, tt) (st_of st))) (split.goes (props l) one _ _ ∙ ap (λ (x : Bool). cond x (part a 7) (part b 8)) (ap (λ (r : TermRecord). eqb r.kind 7) (sym er) ∙ ex)))
 
-    pub or-first : eqb r.kind 7 ≡ true → Asked l R f R (left.By 7 1) c (want.Check (sort.Proposition a)) (inner st)
+    pub or_first : eqb r.kind 7 ≡ true → Asked l R f R (left.By 7 1) c (want.Check (sort.Proposition a)) (inner st)
     unfolding answered
-    or-first ex = asks rd among (chosen true ex) (omega arith) (omega (arith, (child rd kind).1)) refl ((child rd kind).0, tt) (omega (arith, split.first))
+    or_first ex = asks rd among (chosen true ex) (omega arith) (omega (arith, (child rd kind).1)) refl ((child rd kind).0, tt) (omega (arith, split.first))
 
-    pub or-second : eqb r.kind 7 ≡ false → Asked l R f R (left.By 8 1) c (want.Check (sort.Proposition b)) (inner st)
+    pub or_second : eqb r.kind 7 ≡ false → Asked l R f R (left.By 8 1) c (want.Check (sort.Proposition b)) (inner st)
     unfolding answered
-    or-second ex = asks rd among (chosen false ex) (omega arith) (omega (arith, (child rd kind).1)) refl ((child rd kind).0, tt) (omega (arith, split.second))
+    or_second ex = asks rd among (chosen false ex) (omega arith) (omega (arith, (child rd kind).1)) refl ((child rd kind).0, tt) (omega (arith, split.second))

@@ -1,4 +1,4 @@
-__ Pair, piece by piece. Assumes nothing.
+-- Pair, piece by piece. Assumes nothing.
 use mathlib.Core.Path.{◌≡◌, refl, ap, sym, subst, ◌∙◌}
 use mathlib.Core.List.{List, []}
 use Prim.Native.Nat.{ℕ, ◌+◌, ◌<◌, ◌≤◌}
@@ -39,7 +39,7 @@ use Rattle.step.specs.Under.{rest, Doing, kid_at}
 use Rattle.step.proofs.Programs.{rest_refused}
 use Rattle.step.proofs.Doing.{doing_start, doing_same, doing_step, doing_stop}
 use Rattle.step.proofs.Moves.{MadeFor, GrownTo, making_left, making_made, making_serials, made_for, made_goes, full_stops}
-use Rattle.step.proofs.Terms.{double_begins, double_nodes, is-pair, pair-first, pair-second}
+use Rattle.step.proofs.Terms.{double_begins, double_nodes, is_pair, pair_first, pair_second}
 use Rattle.rule.specs.declared.next.Rule.{Rule}
 use Rattle.rule.specs.declared.next.Rest.TheVariants as left
 use Rattle.rule.specs.Reading.{pairing}
@@ -54,22 +54,22 @@ module _ {l : List ℕ} {R : Rooms} {k : Place} {st : State} (rd : Ready l R k.0
   c₂ = (term_record l k.0).child2.0
 
   fits : 1 + 0 + (nodes (term_at l c₁) + (nodes (term_at l c₂) + 0)) ≤ nodes (term_at l k.0)
-  fits = omega (arith, double_nodes (is-pair rd.base.table rd.here kind))
+  fits = omega (arith, double_nodes (is_pair rd.base.table rd.here kind))
 
   pub pair_child : (k.0 < c₁) × (c₁ < terms l)
-  pair_child = pair-first rd.base.table rd.here kind
+  pair_child = pair_first rd.base.table rd.here kind
 
   inside : ((k.0 < c₁) × (c₁ < terms l)) × (((k.0 < c₂) × (c₂ < terms l)) × Unit {0})
-  inside = (pair_child, (pair-second rd.base.table rd.here kind, tt))
+  inside = (pair_child, (pair_second rd.base.table rd.here kind, tt))
 
-  __ SYNTHESIZED: the left part is asked
+  -- SYNTHESIZED: the left part is asked
   pub pairing_begins : Asked l R (record { term = k; want = want.Synth; start = st }) R left.Second c₁ want.Synth (inner st)
   unfolding double_step pair_step
   pairing_begins =
-      asks rd tt (doing_start _ (kid_at l c₁, (kid_at l c₂, tt)) rd (double_begins l k.0 R synth st Double.pair c₁ c₂ (is-pair rd.base.table rd.here kind)))
+      asks rd tt (doing_start _ (kid_at l c₁, (kid_at l c₂, tt)) rd (double_begins l k.0 R synth st Double.pair c₁ c₂ (is_pair rd.base.table rd.here kind)))
       (omega arith) fits (refl, refl, omega arith) inside tt
 
-  __ CHECKED
+  -- CHECKED
   module _ (wanted : Sort) (among : TypeIn (count_of l st) wanted) where
     abbrev A : Ty
     A = reads l R.props wanted
@@ -79,18 +79,18 @@ module _ {l : List ℕ} {R : Rooms} {k : Place} {st : State} (rd : Ready l R k.0
 
     starts : run_of l R k.0 (check A) st ≡ rest (check A) end (obey (pair_step k.0 c₁ (check A) (ctx_of l R.props R.work st.context)) (kid_at l c₁, (kid_at l c₂, tt)) (st_of st))
     unfolding double_step
-    starts = double_begins l k.0 R (check A) st Double.pair c₁ c₂ (is-pair rd.base.table rd.here kind)
+    starts = double_begins l k.0 R (check A) st Double.pair c₁ c₂ (is_pair rd.base.table rd.here kind)
 
     module _ (count : ℕ) (ec : count ≡ count_of l st) (p : Parts) (is : SplitAs and R.props count wanted p) where
-      __ against an And: the left part is asked
-      pub pair-begins : (a b : Proposition) → p ≡ parts.Both a b → Asked l R f R (left.Right 2 b) c₁ (want.Check (sort.Proposition a)) (inner st)
+      -- against an And: the left part is asked
+      pub pair_begins : (a b : Proposition) → p ≡ parts.Both a b → Asked l R f R (left.Right 2 b) c₁ (want.Check (sort.Proposition a)) (inner st)
       unfolding pair_step answered
-      pair-begins a b e =
+      pair_begins a b e =
           let split : Split and R.props count wanted a.0 b.0 = subst (SplitAs and R.props count wanted) e is in
           asks rd among (doing_start _ (kid_at l c₁, (kid_at l c₂, tt)) rd (starts ∙ ap (λ (q : Prog two). rest (check A) end (obey q (kid_at l c₁, (kid_at l c₂, tt)) (st_of st))) (split.goes (props l) two _ _)))
           (omega arith) fits (omega (arith, split.second), refl, omega arith) inside (omega (arith, split.first))
 
-    __ against an Exists
+    -- against an Exists
     module _ (bare : Unsplit and R.props wanted) (count : ℕ) (ec : count ≡ count_of l st) (sp : Quantified) (is : OverAs ex R.props count wanted sp) where
       abbrev opens : ℕ → Prop → ℕ → Prog two
       opens D B i = make (size B) k.0 (ask (check (datatype D)) (ctx_of l R.props R.work st.context) λ _. ask (check (prop (put i B))) (ctx_of l R.props R.work st.context) λ _. by 13 k.0 A [])
@@ -99,9 +99,9 @@ module _ {l : List ℕ} {R : Rooms} {k : Place} {st : State} (rd : Ready l R k.0
       unfolding pair_step
       others = starts ∙ ap (λ (q : Prog two). rest (check A) end (obey q (kid_at l c₁, (kid_at l c₂, tt)) (st_of st))) (bare (props l) two _ _)
 
-      pub exists-other : sp ≡ quantified.Other → (r : Refusal) → r ≡ record { number = 11; place = k.0 } → Refuses (run_of l R k.0 (check A) st) r
+      pub exists_other : sp ≡ quantified.Other → (r : Refusal) → r ≡ record { number = 11; place = k.0 } → Refuses (run_of l R k.0 (check A) st) r
       unfolding obey
-      exists-other e r er =
+      exists_other e r er =
           let other : NotOver ex R.props wanted = subst (OverAs ex R.props count wanted) e is in
           says 11 k.0 er
           (others
@@ -115,30 +115,30 @@ module _ {l : List ℕ} {R : Rooms} {k : Place} {st : State} (rd : Ready l R k.0
         over : Over ex R.props count wanted d.0 b.0
         over = subst (OverAs ex R.props count wanted) e is
 
-        pub exists-body : b.0 < count
-        exists-body = over.body
+        pub exists_body : b.0 < count
+        exists_body = over.body
 
         begun : Doing l R k.0 (check A) st R (inner st) (objected 13 10 c₁ (ctx_of l R.props R.work st.context) (opens d.0 B)) (kid_at l c₁, (kid_at l c₂, tt)) 0 0 0
         begun = doing_start _ (kid_at l c₁, (kid_at l c₂, tt)) rd (others ∙ ap (λ (q : Prog two). rest (check A) end (obey q (kid_at l c₁, (kid_at l c₂, tt)) (st_of st))) (over.goes (props l) two _ _))
 
         module _ (ob : Object) (tells : ObjectAs l R.props R.work (want.Check wanted) c₁ st ob) where
-          pub exists-object : (r : Refusal) → ob ≡ object.Refused r → Refuses (run_of l R k.0 (check A) st) r
-          exists-object r q = doing_stop (refusal r.number r.place) begun (subst (ObjectAs l R.props R.work (want.Check wanted) c₁ st) q tells one (opens d.0 B) (kid_at l c₁, (kid_at l c₂, tt)) refl)
+          pub exists_object : (r : Refusal) → ob ≡ object.Refused r → Refuses (run_of l R k.0 (check A) st) r
+          exists_object r q = doing_stop (refusal r.number r.place) begun (subst (ObjectAs l R.props R.work (want.Check wanted) c₁ st) q tells one (opens d.0 B) (kid_at l c₁, (kid_at l c₂, tt)) refl)
 
           module _ (i : Serial) (known : ob ≡ object.Known i) (free : ℕ) (el : free + st.made ≡ limit) (ps : List ℕ) (o : Made) (puts : PutIs R.props count free b.0 i.0 ps o) where
             goes : obey (objected 13 10 c₁ (ctx_of l R.props R.work st.context) (opens d.0 B)) (kid_at l c₁, (kid_at l c₂, tt)) (st_of st) ≡ obey (opens d.0 B i.0) (kid_at l c₁, (kid_at l c₂, tt)) (st_of st)
             goes = subst (ObjectAs l R.props R.work (want.Check wanted) c₁ st) known tells one (opens d.0 B) (kid_at l c₁, (kid_at l c₂, tt)) refl
 
-            pub exists-full : o ≡ Full → (r : Refusal) → r ≡ record { number = 30; place = k.0 } → Refuses (run_of l R k.0 (check A) st) r
-            exists-full q r er =
+            pub exists_full : o ≡ Full → (r : Refusal) → r ≡ record { number = 30; place = k.0 } → Refuses (run_of l R k.0 (check A) st) r
+            exists_full q r er =
                 says 30 k.0 er
                 (doing_stop (refusal 30 k.0) begun
                 (goes ∙ full_stops l R.props ps count free (inner st) (λ t. size (room_at t R.props b.0)) (λ t. put i.0 (room_at t R.props b.0)) o ec el puts q k.0 _ (kid_at l c₁, (kid_at l c₂, tt))))
 
-            pub exists-begins : (m : Proposition) (z : ℕ) → o ≡ At m z → (g : State) → GrownTo st count z g
+            pub exists_begins : (m : Proposition) (z : ℕ) → o ≡ At m z → (g : State) → GrownTo st count z g
                 → Asked l R f (rooms R.tree R.goals ps R.work) (left.Right 13 m) c₁ (want.Check (sort.Datatype d)) (inner g)
             unfolding answered
-            exists-begins m z q g eg =
+            exists_begins m z q g eg =
                 let makes : MadeFor l R.props ps (inner st) (inner g) (size B) (put i.0 B) m =
                 made_for l R.props ps count free (inner st) (λ t. size (room_at t R.props b.0)) (λ t. put i.0 (room_at t R.props b.0)) o ec el puts (inner g) m z q (eg.0, ap (λ (n : ℕ). n + 1) eg.1, eg.2, eg.3, eg.4, eg.5) in
                 asks rd among
@@ -146,7 +146,7 @@ module _ {l : List ℕ} {R : Rooms} {k : Place} {st : State} (rd : Ready l R k.0
                 (doing_step _ 0 begun (making_left R makes.making) (making_made makes.making) (making_serials makes.making) (goes ∙ made_goes makes k.0 _ (kid_at l c₁, (kid_at l c₂, tt)))))
                 (omega arith) fits (makes.stands.among, refl, omega arith) inside tt
 
-__ THE RIGHT PART is asked
+-- THE RIGHT PART is asked
 module _ {l : List ℕ} {R₀ : Rooms} {f : Rule} {R : Rooms} {T : Sort} {s : State} where
   pub pair_right : {n : ℕ} {b : Proposition} → Resumed l R₀ f R (left.Right n b) T s → Asked l R₀ f R (left.By n 2) (term_record l f.term.0).child2.0 (want.Check (sort.Proposition b)) s
   pair_right a = asks a.begun a.wants a.doing a.holds.2 a.fits (omega (arith, a.holds.1)) a.others a.holds.0
@@ -156,7 +156,7 @@ module _ {l : List ℕ} {R₀ : Rooms} {f : Rule} {R : Rooms} {T : Sort} {s : St
       asks a.begun a.wants (doing_same (ap (λ (S : Ty). ask synth _ λ U. pairing f.term.0 S U) (sym a.stands.means)) a.doing)
       a.holds.2 a.fits (a.stands.among, omega (arith, a.holds.1), a.holds.0) a.others tt
 
-__ BOTH PARTS have types t and u; the second is tested first
+-- BOTH PARTS have types t and u; the second is tested first
 module _ {l : List ℕ} {R₀ : Rooms} {f : Rule} {R : Rooms} {t u : Sort} {s : State} (a : Resumed l R₀ f R (left.Both t) u s) where
   abbrev k : ℕ
   k = f.term.0
@@ -174,20 +174,20 @@ module _ {l : List ℕ} {R₀ : Rooms} {f : Rule} {R : Rooms} {t u : Sort} {s : 
     both_first d e r er = says 25 k er (doing_stop (refusal 25 k) whole (λ i. obey (pairing k (reads l R.props (e i)) (reads l R.props (eu i))) tt (st_of s)))
 
     module _ (p : Proposition) (et : t ≡ sort.Proposition p) (count : ℕ) (ec : count ≡ count_of l s) (free : ℕ) (el : free + s.made ≡ limit) (mo : Made) (ps : List ℕ) (is : LinkIs and R.props count free p.0 b.0 ps mo) where
-      abbrev whole-and : ℕ → Prop
-      whole-and tables = link made and (room_at tables R.props p.0) (room_at tables R.props b.0)
+      abbrev whole_and : ℕ → Prop
+      whole_and tables = link made and (room_at tables R.props p.0) (room_at tables R.props b.0)
 
-      making-and : Doing l R₀ k (mode l R₀.props f.want) f.start R s (make 1 k (by 2 k (prop (whole-and (props l))) [])) tt a.used a.own a.wide
+      making_and : Doing l R₀ k (mode l R₀.props f.want) f.start R s (make 1 k (by 2 k (prop (whole_and (props l))) [])) tt a.used a.own a.wide
       unfolding on_prop
-      making-and = doing_same (λ i. pairing k (reads l R.props (et i)) (reads l R.props (eu i))) whole
+      making_and = doing_same (λ i. pairing k (reads l R.props (et i)) (reads l R.props (eu i))) whole
 
-      pub both-full : mo ≡ Full → (r : Refusal) → r ≡ record { number = 30; place = k } → Refuses (run_of l R₀ k (mode l R₀.props f.want) f.start) r
-      both-full q r er = says 30 k er (doing_stop (refusal 30 k) making-and (full_stops l R.props ps count free s (λ tables. 1) whole-and mo ec el is q k _ tt))
+      pub both_full : mo ≡ Full → (r : Refusal) → r ≡ record { number = 30; place = k } → Refuses (run_of l R₀ k (mode l R₀.props f.want) f.start) r
+      both_full q r er = says 30 k er (doing_stop (refusal 30 k) making_and (full_stops l R.props ps count free s (λ tables. 1) whole_and mo ec el is q k _ tt))
 
-      pub both-made : (m : Proposition) (e : ℕ) → mo ≡ At m e → (s₁ : State) → GrownTo s count e s₁ → Resumed l R₀ f (rooms R.tree R.goals ps R.work) (left.By 2 2) (sort.Proposition m) s₁
-      both-made m e q s₁ g =
-          let d : MadeFor l R.props ps s s₁ 1 (whole-and (props l)) m = made_for l R.props ps count free s (λ tables. 1) whole-and mo ec el is s₁ m e q g in
+      pub both_made : (m : Proposition) (e : ℕ) → mo ≡ At m e → (s₁ : State) → GrownTo s count e s₁ → Resumed l R₀ f (rooms R.tree R.goals ps R.work) (left.By 2 2) (sort.Proposition m) s₁
+      both_made m e q s₁ g =
+          let d : MadeFor l R.props ps s s₁ 1 (whole_and (props l)) m = made_for l R.props ps count free s (λ tables. 1) whole_and mo ec el is s₁ m e q g in
           turned a d.stands
-          (doing_same (ap (λ (A : Ty). by 2 k A []) (sym (answered_synth l R₀.props a.holds.2 (prop (whole-and (props l))))))
-          (doing_step _ 0 making-and (making_left R d.making) d.making.within (making_serials d.making) (made_goes d k _ tt)))
+          (doing_same (ap (λ (A : Ty). by 2 k A []) (sym (answered_synth l R₀.props a.holds.2 (prop (whole_and (props l))))))
+          (doing_step _ 0 making_and (making_left R d.making) d.making.within (making_serials d.making) (made_goes d k _ tt)))
           (omega arith) a.holds.1 tt

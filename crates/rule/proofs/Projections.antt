@@ -1,4 +1,4 @@
-__ The projections, piece by piece. Assumes nothing.
+-- The projections, piece by piece. Assumes nothing.
 use mathlib.Core.Path.{◌≡◌, refl, ap, sym, subst, ◌∙◌}
 use mathlib.Core.Bool.{Bool, true, false, cond}
 use mathlib.Core.List.{List, []}
@@ -32,14 +32,14 @@ use Rattle.step.specs.Modes.{mode}
 use Rattle.step.specs.Contract.{Ready, Refuses, run_of}
 use Rattle.step.specs.Under.{rest, Doing, kid_at}
 use Rattle.step.proofs.Doing.{doing_start, doing_same, doing_stop}
-use Rattle.step.proofs.Terms.{single_begins, single_nodes, is-fst, is-snd, fst-child, snd-child}
+use Rattle.step.proofs.Terms.{single_begins, single_nodes, is_fst, is_snd, fst_child, snd_child}
 use Rattle.rule.specs.declared.next.Rule.{Rule}
 use Rattle.rule.specs.declared.next.Rest.TheVariants as left
 use Rattle.rule.specs.Reading.{projecting}
 use Rattle.rule.specs.Going.{Asked, Resumed}
 use Rattle.rule.proofs.Going.{says, answered_synth, asks, turned}
 
-__ WHAT IS PROJECTED is asked
+-- WHAT IS PROJECTED is asked
 module _ {l : List ℕ} {R : Rooms} {k : Place} {st : State} (rd : Ready l R k.0 st) (kind : (1 < (term_record l k.0).kind) × ((term_record l k.0).kind < 4)) where
   abbrev c₁ : ℕ
   c₁ = (term_record l k.0).child1.0
@@ -58,8 +58,8 @@ module _ {l : List ℕ} {R : Rooms} {k : Place} {st : State} (rd : Ready l R k.0
   child = at sides
     where
       at : ((term_record l k.0).kind ≡ 2) ⊎ ((term_record l k.0).kind ≡ 3) → ((k.0 < c₁) × (c₁ < terms l)) × (nodes (term_at l k.0) ≡ 1 + nodes (term_at l c₁))
-      at (inl e) = (fst-child rd.base.table rd.here e, single_nodes (is-fst rd.base.table rd.here e))
-      at (inr e) = (snd-child rd.base.table rd.here e, single_nodes (is-snd rd.base.table rd.here e))
+      at (inl e) = (fst_child rd.base.table rd.here e, single_nodes (is_fst rd.base.table rd.here e))
+      at (inr e) = (snd_child rd.base.table rd.here e, single_nodes (is_snd rd.base.table rd.here e))
 
   starts : run_of l R k.0 synth st ≡ rest synth end (obey (ask synth Γ (projecting k.0 (term_record l k.0).kind)) (kid_at l c₁, tt) (st_of st))
   unfolding single_step project_step project_synth
@@ -67,16 +67,16 @@ module _ {l : List ℕ} {R : Rooms} {k : Place} {st : State} (rd : Ready l R k.0
     where
       at : ((term_record l k.0).kind ≡ 2) ⊎ ((term_record l k.0).kind ≡ 3) → run_of l R k.0 synth st ≡ rest synth end (obey (ask synth Γ (projecting k.0 (term_record l k.0).kind)) (kid_at l c₁, tt) (st_of st))
       at (inl e) =
-          single_begins l k.0 R synth st _ c₁ (is-fst rd.base.table rd.here e)
+          single_begins l k.0 R synth st _ c₁ (is_fst rd.base.table rd.here e)
           ∙ sym (ap (λ (n : ℕ). rest synth end (obey (ask synth Γ (projecting k.0 n)) (kid_at l c₁, tt) (st_of st))) e)
       at (inr e) =
-          single_begins l k.0 R synth st _ c₁ (is-snd rd.base.table rd.here e)
+          single_begins l k.0 R synth st _ c₁ (is_snd rd.base.table rd.here e)
           ∙ sym (ap (λ (n : ℕ). rest synth end (obey (ask synth Γ (projecting k.0 n)) (kid_at l c₁, tt) (st_of st))) e)
 
   pub projection_begins : Asked l R (record { term = k; want = want.Synth; start = st }) R left.Part c₁ want.Synth (inner st)
   projection_begins = asks rd tt (doing_start _ (kid_at l c₁, tt) rd starts) (omega arith) (omega (arith, child.1)) (refl, refl) (child.0, tt) tt
 
-__ A PART of what it has
+-- A PART of what it has
 module _ {l : List ℕ} {R₀ : Rooms} {f : Rule} {R : Rooms} {t : Sort} {s : State} (a : Resumed l R₀ f R left.Part t s) (count : ℕ) (ec : count ≡ count_of l s) (sp : Parts) (is : SplitAs and R.props count t sp) where
   abbrev k : ℕ
   k = f.term.0
@@ -104,8 +104,8 @@ module _ {l : List ℕ} {R₀ : Rooms} {f : Rule} {R : Rooms} {t : Sort} {s : St
     ends n m h d =
         turned a (record { among = h; means = refl }) (doing_same (ap (λ (A : Ty). by n k A []) (sym (answered_synth l R₀.props a.holds.0 (P m)))) d) (omega arith) a.holds.1 tt
 
-    pub part-first : eqb r.kind 2 ≡ true → Resumed l R₀ f R (left.By 3 1) (sort.Proposition x) s
-    part-first eb = ends 3 x (omega (arith, split.first)) (chosen true eb)
+    pub part_first : eqb r.kind 2 ≡ true → Resumed l R₀ f R (left.By 3 1) (sort.Proposition x) s
+    part_first eb = ends 3 x (omega (arith, split.first)) (chosen true eb)
 
-    pub part-second : eqb r.kind 2 ≡ false → Resumed l R₀ f R (left.By 4 1) (sort.Proposition y) s
-    part-second eb = ends 4 y (omega (arith, split.second)) (chosen false eb)
+    pub part_second : eqb r.kind 2 ≡ false → Resumed l R₀ f R (left.By 4 1) (sort.Proposition y) s
+    part_second eb = ends 4 y (omega (arith, split.second)) (chosen false eb)

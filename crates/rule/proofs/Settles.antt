@@ -1,4 +1,4 @@
-__ A check by comparison (Ident, projections, Application): what is synthesized is held against what is wanted. Assumes nothing.
+-- A check by comparison (Ident, projections, Application): what is synthesized is held against what is wanted. Assumes nothing.
 use mathlib.Core.Path.{◌≡◌, refl, ap, sym, subst, subst⁻¹, ◌∙◌}
 use mathlib.Core.Bool.{Bool, true, false, cond, ◌||◌, false≢true}
 use mathlib.Core.List.{List, []}
@@ -41,11 +41,11 @@ use Rattle.step.specs.Under.{kid_at}
 use Rattle.step.proofs.Programs.{compared_with, expecting_rest}
 use Rattle.step.proofs.Frames.{stands_kept, trees_on}
 use Rattle.step.proofs.Moves.{left_base}
-use Rattle.step.proofs.Terms.{leaf_begins, single_begins, double_begins, is-ident, is-fst, is-snd, is-app}
+use Rattle.step.proofs.Terms.{leaf_begins, single_begins, double_begins, is_ident, is_fst, is_snd, is_app}
 use Rattle.rule.specs.Going.{begun_as, Ended}
 use Rattle.rule.proofs.Going.{says}
 
-__ WHAT A COMPARISON ANSWERS
+-- WHAT A COMPARISON ANSWERS
 unfoldable outcome : ℕ → Ty → Answer → St → Compared → Out Answer
 outcome p A a st Equal = ok (record { ty = A; tree = a.tree }) st
 outcome p A a st Alpha = ok (record { ty = A; tree = node (record { rule = 16; term = p; concludes = A; serials = [] }) a.tree end }) st
@@ -62,7 +62,7 @@ compared_outcome p A a st = at (eq a.ty A) (alpha a.ty A)
     at false true = refl
     at false false = refl
 
-__ THE TWO RUNS of one term
+-- THE TWO RUNS of one term
 module _ {l : List ℕ} {R : Rooms} {k : ℕ} {st : State} (rd : Ready l R k st) (wanted : Sort) (kind : synthesizes (term_record l k).kind ≡ true) where
   abbrev Γ₁ : Ctx
   Γ₁ = ctx_of l R.props R.work st.context
@@ -80,7 +80,7 @@ module _ {l : List ℕ} {R : Rooms} {k : ℕ} {st : State} (rd : Ready l R k st)
   unfolding leaf_step ident_step
   ident_compares e =
       let x = (term_record l k).name1.0 in
-      let s = is-ident rd.base.table rd.here e in
+      let s = is_ident rd.base.table rd.here e in
       leaf_begins l k R (check A₁) st (Leaf.ident x) s
       ∙ expecting_rest k A₁ (ident_synth k x Γ₁) tt end (st_of st)
       ∙ sym (ap holding (leaf_begins l k R synth st (Leaf.ident x) s))
@@ -89,7 +89,7 @@ module _ {l : List ℕ} {R : Rooms} {k : ℕ} {st : State} (rd : Ready l R k st)
   unfolding single_step project_step
   fst_compares e =
       let m = (term_record l k).child1.0 in
-      let s = is-fst rd.base.table rd.here e in
+      let s = is_fst rd.base.table rd.here e in
       single_begins l k R (check A₁) st Single.fst m s
       ∙ expecting_rest k A₁ (project_synth k true Γ₁) (kid_at l m, tt) end (st_of st)
       ∙ sym (ap holding (single_begins l k R synth st Single.fst m s))
@@ -98,7 +98,7 @@ module _ {l : List ℕ} {R : Rooms} {k : ℕ} {st : State} (rd : Ready l R k st)
   unfolding single_step project_step
   snd_compares e =
       let m = (term_record l k).child1.0 in
-      let s = is-snd rd.base.table rd.here e in
+      let s = is_snd rd.base.table rd.here e in
       single_begins l k R (check A₁) st Single.snd m s
       ∙ expecting_rest k A₁ (project_synth k false Γ₁) (kid_at l m, tt) end (st_of st)
       ∙ sym (ap holding (single_begins l k R synth st Single.snd m s))
@@ -108,7 +108,7 @@ module _ {l : List ℕ} {R : Rooms} {k : ℕ} {st : State} (rd : Ready l R k st)
   app_compares e =
       let m = (term_record l k).child1.0 in
       let n = (term_record l k).child2.0 in
-      let s = is-app rd.base.table rd.here e in
+      let s = is_app rd.base.table rd.here e in
       double_begins l k R (check A₁) st Double.app m n s
       ∙ expecting_rest k A₁ (app_synth k m n Γ₁) (kid_at l m, (kid_at l n, tt)) end (st_of st)
       ∙ sym (ap holding (double_begins l k R synth st Double.app m n s))
@@ -127,7 +127,7 @@ module _ {l : List ℕ} {R : Rooms} {k : ℕ} {st : State} (rd : Ready l R k st)
       at false ea false eb false ec true ed h = app_compares (eqb→eq n 5 (subst⁻¹ T ed tt))
       at false ea false eb false ec false ed h = absurd (false≢true h)
 
-__ HOW A TERM IS BEGUN, by its kind as the code has it
+-- HOW A TERM IS BEGUN, by its kind as the code has it
 pub kind_compares : (l : List ℕ) (k : ℕ) (r : TermRecord) → r ≡ term_record l k → (b : Bool) → b ≡ synthesizes r.kind → {x : Bool} → b ≡ x → synthesizes (term_record l k).kind ≡ x
 kind_compares l k r er b eb ex = ap (λ (r : TermRecord). synthesizes r.kind) (sym er) ∙ sym eb ∙ ex
 
@@ -151,7 +151,7 @@ begun_check kind w E e = at (synthesizes kind) refl e
     at true eb e = absurd (subst Checks e tt)
     at false eb e = (eb, sym e)
 
-__ A REFUSAL before the comparison is the check's too
+-- A REFUSAL before the comparison is the check's too
 pub refused_so : {l : List ℕ} {R : Rooms} (R₁ : Rooms) {k : ℕ} {st : State} (rd : Ready l R k st) (w : Want) (r : Refusal)
     → RanAs l R R₁ k (begun_as (term_record l k).kind w) st (ran.Refused r) → RanAs l R R₁ k w st (ran.Refused r)
 unfolding begun_as then
@@ -162,7 +162,7 @@ refused_so {l} {R} R₁ {k} {st} rd w r m = at w (synthesizes (term_record l k).
     at want.Synth true e m = m
     at (want.Check E) true e m = compares rd E e ∙ ap (holding rd E e) m
 
-__ THE END of a term without a comparison: it was asked for its type, or is of another kind
+-- THE END of a term without a comparison: it was asked for its type, or is of another kind
 module _ {l tree ps : List ℕ} {k : ℕ} {w : Want} {st : State} {t : Sort} {s : State} (z : Ended l tree ps k w st t s) where
   abbrev E₁ : Rooms
   E₁ = rooms tree z.goals ps z.work
@@ -178,10 +178,10 @@ module _ {l tree ps : List ℕ} {k : ℕ} {w : Want} {st : State} {t : Sort} {s 
   pub ended_so : synthesizes (term_record l k).kind ≡ false → RanAs l z.start E₁ k w st (ran.Has t s)
   ended_so e = subst (λ (w : Want). RanAs l z.start E₁ k w st (ran.Has t s)) (begun_so _ e) z.ran
 
-  __ a check
+  -- a check
   module _ {E : Sort} (e : w ≡ want.Check E) where
-    abbrev pub ended-check : Ended l tree ps k (want.Check E) st t s
-    ended-check =
+    abbrev pub ended_check : Ended l tree ps k (want.Check E) st t s
+    ended_check =
         record {
           start = z.start;
           goals = z.goals;
@@ -191,10 +191,10 @@ module _ {l tree ps : List ℕ} {k : ℕ} {w : Want} {st : State} {t : Sort} {s 
           ran = subst (λ (w : Want). RanAs l z.start E₁ k (begun_as (term_record l k).kind w) st (ran.Has t s)) e z.ran;
         }
 
-    pub ended-checked : (R₂ : Rooms) (r : Ran) → RanAs l z.start R₂ k (want.Check E) st r → RanAs l z.start R₂ k w st r
-    ended-checked R₂ r m = subst⁻¹ (λ (w : Want). RanAs l z.start R₂ k w st r) e m
+    pub ended_checked : (R₂ : Rooms) (r : Ran) → RanAs l z.start R₂ k (want.Check E) st r → RanAs l z.start R₂ k w st r
+    ended_checked R₂ r m = subst⁻¹ (λ (w : Want). RanAs l z.start R₂ k w st r) e m
 
-__ WHAT WAS SYNTHESIZED, held against what is wanted
+-- WHAT WAS SYNTHESIZED, held against what is wanted
 module _ {l tree ps : List ℕ} {k : ℕ} {wanted : Sort} {st : State} {t : Sort} {s : State} (z : Ended l tree ps k (want.Check wanted) st t s) (kind : synthesizes (term_record l k).kind ≡ true) where
   abbrev R : Rooms
   R = z.start
@@ -224,7 +224,7 @@ module _ {l tree ps : List ℕ} {k : ℕ} {wanted : Sort} {st : State} {t : Sort
   stands : Stands l R₁.props (count_of l s) wanted A
   stands = stands_kept l z.ready.base.loaded.arena left.grown (record { among = z.among; means = refl })
 
-  __ for count_of and compare_types
+  -- for count_of and compare_types
   pub settle_base : Base l R₁ s
   settle_base = left_base left (spent.within z.ready.base.made) z.ready.base
 
@@ -243,15 +243,15 @@ module _ {l tree ps : List ℕ} {k : ℕ} {wanted : Sort} {st : State} {t : Sort
         ∙ compared_outcome k A found (st_of s)
         ∙ ap (outcome k A found (st_of s)) ((λ i. compared_types (sym has.type.means i) (sym stands.means i)) ∙ sym (ec (props l)) ∙ ed)
 
-    pub settle-apart : c ≡ Apart → (r : Refusal) → r ≡ record { number = 14; place = k } → RanAs l R R₁ k (want.Check wanted) st (ran.Refused r)
+    pub settle_apart : c ≡ Apart → (r : Refusal) → r ≡ record { number = 14; place = k } → RanAs l R R₁ k (want.Check wanted) st (ran.Refused r)
     unfolding outcome
-    settle-apart ed r er = says 14 k er (answers Apart ed)
+    settle_apart ed r er = says 14 k er (answers Apart ed)
 
-    pub settle-equal : c ≡ Equal → RanAs l R R₁ k (want.Check wanted) st (ran.Has wanted s)
+    pub settle_equal : c ≡ Equal → RanAs l R R₁ k (want.Check wanted) st (ran.Has wanted s)
     unfolding outcome
-    settle-equal ed = record { accepted = record { answer = record { ty = A; tree = found.tree }; accepts = answers Equal ed; left = left }; type = stands }
+    settle_equal ed = record { accepted = record { answer = record { ty = A; tree = found.tree }; accepts = answers Equal ed; left = left }; type = stands }
 
-    __ alpha-equal: a node more, for which the check's bound has room
+    -- alpha-equal: a node more, for which the check's bound has room
     module _ (ed : c ≡ Alpha) where
       abbrev top : Node
       top = record { rule = 16; term = k; concludes = A; serials = [] }
@@ -267,18 +267,18 @@ module _ {l tree ps : List ℕ} {k : ℕ} {wanted : Sort} {st : State} {t : Sort
       unfolding records
       few = omega (arith, left.records, (run_spends (term_at l k) (check A) Γ (st_of st) topped (st_of s) accepts).records)
 
-      pub settle-order : st.records ≤ s.records
-      settle-order = omega (arith, left.records)
+      pub settle_order : st.records ≤ s.records
+      settle_order = omega (arith, left.records)
 
-      pub settle-shift : 16 * s.records + 16 ≤ length R₁.tree
-      settle-shift = omega (arith, few, z.ready.records, settle_base.tree_room)
+      pub settle_shift : 16 * s.records + 16 ≤ length R₁.tree
+      settle_shift = omega (arith, few, z.ready.records, settle_base.tree_room)
 
-      pub settle-inner : s.records < largest
-      settle-inner = omega (arith, few, z.ready.records)
+      pub settle_inner : s.records < largest
+      settle_inner = omega (arith, few, z.ready.records)
 
       module _ (tr : List ℕ) (sh : Shifted st.records s.records R₁.tree tr) where
-        pub settle-put : 16 * st.records + 16 ≤ length tr
-        settle-put = omega (arith, settle-order, settle-shift, sh.size)
+        pub settle_put : 16 * st.records + 16 ≤ length tr
+        settle_put = omega (arith, settle_order, settle_shift, sh.size)
 
         module _ (nd : Record) (tr' : List ℕ) (en : nd ≡ node_rec 16 k wanted none none 1) (put : Put tr st.records nd tr') where
           abbrev R₂ : Rooms
@@ -318,7 +318,7 @@ module _ {l tree ps : List ℕ} {k : ℕ} {wanted : Sort} {st : State} {t : Sort
                     };
               }
 
-          pub settle-alpha : (s' : State) → s' ≡ inner s → RanAs l R R₂ k (want.Check wanted) st (ran.Has wanted s')
-          settle-alpha s' es =
+          pub settle_alpha : (s' : State) → s' ≡ inner s → RanAs l R R₂ k (want.Check wanted) st (ran.Has wanted s')
+          settle_alpha s' es =
               subst⁻¹ (λ (s' : State). RanAs l R R₂ k (want.Check wanted) st (ran.Has wanted s')) es
               (record { accepted = record { answer = topped; accepts = accepts; left = over }; type = stands })

@@ -1,4 +1,4 @@
-__ What the pieces of a rule ask and promise: a rule that asks for a child, a rule whose child has answered, and what comes of it. Assumes nothing.
+-- What the pieces of a rule ask and promise: a rule that asks for a child, a rule whose child has answered, and what comes of it. Assumes nothing.
 use Rattle.std.specs.Prelude.{◌≡◌, Bool, true, false, cond, List, ℕ, ◌+◌, ◌*◌, ◌<◌, ◌≤◌, length}
 use Rattle.numbers.specs.declared.Sort.{Sort}
 use Rattle.numbers.specs.Limits.{largest}
@@ -27,8 +27,8 @@ use Rattle.rule.specs.declared.next.Next.{Next}
 use Rattle.rule.specs.declared.next.Next.TheVariants as next
 use Rattle.rule.specs.Reading.{after, kids, weight, Inside, program}
 
-__ WHAT A REST HOLDS: its numbers are among the first c propositions; so many serials are the rule's own, so many premises have answered; and rests of
-__ rules that are only synthesized
+-- WHAT A REST HOLDS: its numbers are among the first c propositions; so many serials are the rule's own, so many premises have answered; and rests of
+-- rules that are only synthesized
 abbrev pub Holds : (c own wide : ℕ) → Want → Rest → Type 0
 Holds c own wide w (rest.By n m) = wide ≡ m
 Holds c own wide w (rest.Right n b) = (b.0 < c) × (wide ≡ 1) × (own ≤ 2)
@@ -51,7 +51,7 @@ module _ (l : List ℕ) (R₀ : Rooms) (f : Rule) where
   abbrev pub Γ₀ : Ctx
   Γ₀ = ctx_of l R₀.props R₀.work f.start.context
 
-  __ THE RULE f, begun in the rooms R₀, ASKS for its child x as v; q is then left of it
+  -- THE RULE f, begun in the rooms R₀, ASKS for its child x as v; q is then left of it
   pub record Asked (R : Rooms) (q : Rest) (x : ℕ) (v : Want) (s : State) : Type 0 where
     pub begun : Ready l R₀ f.term.0 f.start
     pub wants : WantIn (count_of l f.start) f.want
@@ -69,7 +69,7 @@ module _ (l : List ℕ) (R₀ : Rooms) (f : Rule) where
     pub ready : Ready l R x s
     pub among : WantIn (count_of l s) v
 
-  __ THE CHILD HAS ANSWERED T, and q is left
+  -- THE CHILD HAS ANSWERED T, and q is left
   pub record Resumed (R : Rooms) (q : Rest) (T : Sort) (s : State) : Type 0 where
     pub begun : Ready l R₀ f.term.0 f.start
     pub wants : WantIn (count_of l f.start) f.want
@@ -84,8 +84,8 @@ module _ (l : List ℕ) (R₀ : Rooms) (f : Rule) where
     pub holds : Holds (count_of l s) own wide f.want q
     pub others : Inside l f.term.0 (after (term_record l f.term.0) q)
 
-__ WHAT A PIECE ANSWERS for the term k, which is wanted as w from R₀ and st₀: fewer than j children are left after the one that it asks for. Whatever a
-__ rule or a term that goes on in its place comes to, it comes to. No term whose check is a comparison has another go on in its place
+-- WHAT A PIECE ANSWERS for the term k, which is wanted as w from R₀ and st₀: fewer than j children are left after the one that it asks for. Whatever a
+-- rule or a term that goes on in its place comes to, it comes to. No term whose check is a comparison has another go on in its place
 abbrev pub NextIs : (l : List ℕ) (R₀ : Rooms) (k : ℕ) (w : Want) (st₀ : State) (j : ℕ) → Rooms → Next → Type 0
 NextIs l R₀ k w st₀ j R (next.Ask f q x v s) =
     Asked l R₀ f R q x.0 v s
@@ -98,19 +98,19 @@ NextIs l R₀ k w st₀ j R (next.Instead x E s) =
 NextIs l R₀ k w st₀ j R (next.Done T s) = RanAs l R₀ R k w st₀ (ran.Has T s)
 NextIs l R₀ k w st₀ j R (next.Refused r) = RanAs l R₀ R k w st₀ (ran.Refused r)
 
-__ a term begun, in the rooms R; no rule has more than three children
+-- a term begun, in the rooms R; no rule has more than three children
 pub record Begins (l : List ℕ) (R R' : Rooms) (k : ℕ) (w : Want) (st : State) (n : Next) : Type 0 where
   pub begins : Ready l R k st → NextIs l R k w st 3 R' n
 
-__ the rule f gone on with, after its child answered T
+-- the rule f gone on with, after its child answered T
 pub record Resumes (l : List ℕ) (R R' : Rooms) (f : Rule) (q : Rest) (T : Sort) (s : State) (n : Next) : Type 0 where
   pub goes : (R₀ : Rooms) → Resumed l R₀ f R q T s → NextIs l R₀ f.term.0 f.want f.start (length (after (term_record l f.term.0) q)) R' n
 
-__ WHAT THE PIECES ASK: the table, the propositions, a place for the node, room for an entry
+-- WHAT THE PIECES ASK: the table, the propositions, a place for the node, room for an entry
 abbrev pub Here : List ℕ → ℕ → Type 0
 Here l k = Table l × (k < terms l)
 
-__ all that a term may be begun with, in rooms of which a piece sees these
+-- all that a term may be begun with, in rooms of which a piece sees these
 abbrev pub Begun : (l ps work : List ℕ) → ℕ → State → Type 0
 Begun l ps work k st = (tree : List ℕ) × (goals : List ℕ) × Ready l (rooms tree goals ps work) k st
 
@@ -126,7 +126,7 @@ Fresh work st = (8 * st.context + 8 ≤ length work) × ((st.context < largest) 
 abbrev pub FreshTwo : List ℕ → State → Type 0
 FreshTwo work st = (st.context + 2 ≤ most_entries) × (context_room ≤ length work) × (st.serials + 2 ≤ most_serials)
 
-__ what they ask of a rest
+-- what they ask of a rest
 abbrev pub Held : (c : ℕ) → List ℕ → State → Rest → Type 0
 Held c work st (rest.By n m) = Unit {0}
 Held c work st (rest.Right n b) = Unit {0}
@@ -145,16 +145,16 @@ Held c work st (rest.CaseRight i b) = Fresh work st
 Held c work st (rest.CaseEnd i j S) = TypeIn c S
 Held c work st rest.Aborts = Unit {0}
 
-__ whether the arms of a case agree: only synthesis asks
+-- whether the arms of a case agree: only synthesis asks
 abbrev pub ArmsAs : (l ps : List ℕ) → Want → Sort → Sort → Bool → Type 0
 ArmsAs l ps want.Synth t u x = x ≡ alpha (reads l ps t) (reads l ps u)
 ArmsAs l ps (want.Check E) t u x = x ≡ true
 
-__ HOW A TERM IS BEGUN: of some kinds a check is a synthesis, and a comparison at its end
+-- HOW A TERM IS BEGUN: of some kinds a check is a synthesis, and a comparison at its end
 unfoldable pub begun_as : (kind : ℕ) → Want → Want
 begun_as kind w = cond (synthesizes kind) want.Synth w
 
-__ term k, begun so from the rooms `start` with these goals and this work room at its end, has come to T
+-- term k, begun so from the rooms `start` with these goals and this work room at its end, has come to T
 pub record Ended (l tree ps : List ℕ) (k : ℕ) (w : Want) (st : State) (T : Sort) (s : State) : Type 0 where
   pub start : Rooms
   pub goals : List ℕ

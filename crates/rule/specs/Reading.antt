@@ -1,5 +1,5 @@
-__ What is left of a rule, read as the rules see it: the rest of its program, and the children that are still to be asked. Each rest is cut out of its
-__ rule in `Rules`, and is held against it where the rule begins. Assumes nothing.
+-- What is left of a rule, read as the rules see it: the rest of its program, and the children that are still to be asked. Each rest is cut out of its
+-- rule in `Rules`, and is held against it where the rule begins. Assumes nothing.
 use Rattle.std.specs.Prelude.{cond, List, [], ◌∷◌, ℕ, ◌+◌, ◌<◌, eqb}
 use Rattle.layout.specs.declared.record.TermRecord.{TermRecord}
 use Rattle.layout.specs.File.{props, terms, term_record}
@@ -15,7 +15,7 @@ use Rattle.step.specs.Under.{kid_at}
 use Rattle.rule.specs.declared.next.Rest.{Rest}
 use Rattle.rule.specs.declared.next.Rest.TheVariants as rest
 
-__ THE CHILDREN that are left, of the term with this record
+-- THE CHILDREN that are left, of the term with this record
 abbrev pub after : TermRecord → Rest → List ℕ
 after r (rest.By n m) = []
 after r (rest.Right n b) = r.child2.0 ∷ []
@@ -42,7 +42,7 @@ abbrev pub kids : (l xs : List ℕ) → Kids (arity xs)
 kids l [] = tt
 kids l (x ∷ xs) = (kid_at l x, kids l xs)
 
-__ their nodes, and that they stand behind term k
+-- their nodes, and that they stand behind term k
 abbrev pub weight : (l xs : List ℕ) → ℕ
 weight l [] = 0
 weight l (x ∷ xs) = nodes (term_at l x) + weight l xs
@@ -51,7 +51,7 @@ abbrev pub Inside : (l : List ℕ) → ℕ → List ℕ → Type 0
 Inside l k [] = Unit {0}
 Inside l k (x ∷ xs) = ((k < x) × (x < terms l)) × Inside l k xs
 
-__ THE PROGRAM that is left, of term k in the mode w and the context Γ, from the answer to the last premise. Parts of rules first
+-- THE PROGRAM that is left, of term k in the mode w and the context Γ, from the answer to the last premise. Parts of rules first
 abbrev pub pairing : ℕ → Ty → Ty → Prog done
 pairing k S T = on_prop T (λ Q. on_prop S (λ P. make 1 k (by 2 k (prop (link made and P Q)) [])) (refuse 25 k)) (refuse 23 k)
 
@@ -70,7 +70,7 @@ abstracting l k i A U = on_prop U (λ B. abstracted k (term_record l k).name1.0 
 abbrev pub instancing : (k i : ℕ) → Prop → Prog done
 instancing k i B = make (size B) k (by 12 k (prop (put i B)) [])
 
-__ the right arm, whose hypothesis is Q
+-- the right arm, whose hypothesis is Q
 abbrev pub arming : (l : List ℕ) (k : ℕ) → Mode → Ctx → (i : ℕ) → Prop → Ty → Prog (more done)
 arming l k w Γ i Q S = serial λ j. ask w (entry (term_record l k).name2.0 j (prop Q) ∷ Γ) λ T. judging k w i j S T
 

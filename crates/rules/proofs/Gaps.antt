@@ -1,5 +1,5 @@
-__ What holds of every gap of a forest: of trees beside and under others, and of the gap that stands at a place.
-__ Assumes nothing.
+-- What holds of every gap of a forest: of trees beside and under others, and of the gap that stands at a place.
+-- Assumes nothing.
 use mathlib.Core.List.{List, [], ◌∷◌}
 use Rattle.rules.specs.Tree.{Node, Gap, Trees, end, gap, node, ◌⊕◌, stack, EveryGap}
 use Rattle.rules.specs.Filling.{At, here, past_gap, past_node, within}

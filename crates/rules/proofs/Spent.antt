@@ -1,6 +1,6 @@
-__ What an accepted run spends, by the nodes of its term: the records and gaps of its tree, serials, propositions; and by the time that it reaches a gap,
-__ serials and entries. It answers one tree.
-__ Assumes nothing.
+-- What an accepted run spends, by the nodes of its term: the records and gaps of its tree, serials, propositions; and by the time that it reaches a gap,
+-- serials and entries. It answers one tree.
+-- Assumes nothing.
 use mathlib.Core.Path.{◌≡◌, refl, ◌∙◌, ap, subst}
 use mathlib.Core.Bool.{Bool, true, false, cond}
 use mathlib.Core.List.{List, [], ◌∷◌}
@@ -19,7 +19,7 @@ use Rattle.rules.specs.Rules.{one, two, by, ident_synth, ident_step, project_syn
 use Rattle.rules.specs.Filling.{At}
 use Rattle.rules.proofs.Gaps.{every_join, every_stack, every_map, every_at}
 
-__ COUNTS of trees side by side
+-- COUNTS of trees side by side
 pub records_beside : (ts us : Trees) → records (ts ⊕ us) ≡ records ts + records us
 unfolding records ◌⊕◌
 records_beside end us = omega arith
@@ -44,7 +44,7 @@ holes_goals end = refl
 holes_goals (gap g ts) = ap suc (holes_goals ts)
 holes_goals (node n ps ts) = omega (arith, holes_goals ps, holes_goals ts, length-append (goals ps) (goals ts))
 
-__ WHAT IS SPENT by a term of n nodes
+-- WHAT IS SPENT by a term of n nodes
 pub record Spent (n : ℕ) (st : St) (a : Answer) (st₁ : St) : Type 0 where
   pub one : width a.tree ≡ 1
   pub records : records a.tree ≤ 2 * n
@@ -54,12 +54,12 @@ pub record Spent (n : ℕ) (st : St) (a : Answer) (st₁ : St) : Type 0 where
   pub made_grow : st.made ≤ st₁.made
   pub within : st.made ≤ limit → st₁.made ≤ limit
 
-__ and by the time that it reaches a gap, from m entries: that gap's own node has given nothing
+-- and by the time that it reaches a gap, from m entries: that gap's own node has given nothing
 pub record Reached (n m : ℕ) (st : St) (g : Gap) : Type 0 where
   pub serials : g.state.serials + 2 ≤ st.serials + 2 * n
   pub entries : length g.ctx + 2 ≤ m + 2 * n
 
-__ a context with at most two entries more
+-- a context with at most two entries more
 data Near (Γ : Ctx) : Ctx → Type 0 where
   near_same : Near Γ Γ
   near_one : {e : Entry} → Near Γ (e ∷ Γ)
@@ -70,7 +70,7 @@ near_few near_same = omega arith
 near_few near_one = omega arith
 near_few near_two = omega arith
 
-__ PROGRAMS that ask in contexts near to Γ, conclude with nodes that P holds of and, where u serials were made before, make at most 2 in all
+-- PROGRAMS that ask in contexts near to Γ, conclude with nodes that P holds of and, where u serials were made before, make at most 2 in all
 data Thrifty (P : List Node → Type 0) (Γ : Ctx) : (n : Arity) → ℕ → Prog n → Type 0 where
   t_conclude : {u : ℕ} {A : Ty} {ns : List Node} → T (leb u 2) → P ns → Thrifty P Γ done u (conclude A ns)
   t_refuse : {n : Arity} {u : ℕ} {r : Refusal} → Thrifty P Γ n u (halt r)
@@ -79,7 +79,7 @@ data Thrifty (P : List Node → Type 0) (Γ : Ctx) : (n : Arity) → ℕ → Pro
   t_name : {n : Arity} {u : ℕ} {r : Refusal} {k : ℕ → Prog (more n)} → ((x : ℕ) → Thrifty P Γ (more n) u (k x)) → Thrifty P Γ (more n) u (name_of r k)
   t_ask : {n : Arity} {u : ℕ} {w : Want} {Δ : Ctx} {k : Ty → Prog n} → Near Γ Δ → ((A : Ty) → Thrifty P Γ n u (k A)) → Thrifty P Γ (more n) u (ask w Δ k)
 
-__ one node; or, of a rule for so many children, at most two: none only over a single child
+-- one node; or, of a rule for so many children, at most two: none only over a single child
 abbrev Alone : List Node → Type 0
 Alone [] = ⊥
 Alone (n ∷ []) = Unit {0}
@@ -91,7 +91,7 @@ Few r (n ∷ []) = Unit {0}
 Few r (n ∷ (m ∷ [])) = Unit {0}
 Few r (n ∷ (m ∷ (l ∷ ns))) = ⊥
 
-__ PARTS of rules
+-- PARTS of rules
 module _ {P : List Node → Type 0} {Γ₀ : Ctx} {n : Arity} {u : ℕ} where
   test_thrifty : (b : Bool) {k z : Prog n} → Thrifty P Γ₀ n u k → Thrifty P Γ₀ n u z → Thrifty P Γ₀ n u (cond b k z)
   test_thrifty true hk hz = hk
@@ -134,7 +134,7 @@ module _ {P : List Node → Type 0} {Γ₀ : Ctx} {n : Arity} {u : ℕ} where
       at none = t_refuse
       at (some B) = t_make (hk B)
 
-__ a check adds one node at most
+-- a check adds one node at most
 few_same : (r : Arity) (ns : List Node) → Alone ns → Few r ns
 few_same r [] h = absurd h
 few_same r (n ∷ []) h = tt
@@ -157,39 +157,39 @@ expecting_thrifty r p A (t_ask z h) = t_ask z (λ B. expecting_thrifty r p A (h 
 
 ruleset thrift = (near_same, near_one, near_two, t_conclude, t_refuse, t_serial, t_make, t_name, t_ask, test_thrifty, link_thrifty, quant_thrifty, prop_thrifty, look_up_thrifty, resolved_thrifty)
 
-__ THE RULES
+-- THE RULES
 abbrev Modest : {n : Arity} → Step n → Type 0
 Modest {n} rule = (w : Want) (Γ : Ctx) → Thrifty (Few n) Γ n 0 (rule w Γ)
 
 module _ (p : ℕ) where
-  __ what is synthesized in the end, with one node
+  -- what is synthesized in the end, with one node
   module _ {P : List Node → Type 0} (h : (n : Node) → P (n ∷ [])) (Γ : Ctx) where
-    ident-synthesis : (x : ℕ) → Thrifty P Γ done 0 (ident_synth p x Γ)
+    ident_synthesis : (x : ℕ) → Thrifty P Γ done 0 (ident_synth p x Γ)
     unfolding ident_synth by
-    ident-synthesis x = search (thrift, h) depth 9
+    ident_synthesis x = search (thrift, h) depth 9
 
-    project-synthesis : (b : Bool) → Thrifty P Γ one 0 (project_synth p b Γ)
+    project_synthesis : (b : Bool) → Thrifty P Γ one 0 (project_synth p b Γ)
     unfolding project_synth by
-    project-synthesis b = search (thrift, h) depth 9
+    project_synthesis b = search (thrift, h) depth 9
 
-    app-synthesis : (q r : ℕ) → Thrifty P Γ two 0 (app_synth p q r Γ)
+    app_synthesis : (q r : ℕ) → Thrifty P Γ two 0 (app_synth p q r Γ)
     unfolding app_synth applying objected by
-    app-synthesis q r = search (thrift, h) depth 15
+    app_synthesis q r = search (thrift, h) depth 15
 
   ident_modest : (x : ℕ) → Modest (ident_step p x)
   unfolding ident_step
-  ident_modest x synth Γ = ident-synthesis (λ n. tt) Γ x
-  ident_modest x (check A) Γ = expecting_thrifty done p A (ident-synthesis (λ n. tt) Γ x)
+  ident_modest x synth Γ = ident_synthesis (λ n. tt) Γ x
+  ident_modest x (check A) Γ = expecting_thrifty done p A (ident_synthesis (λ n. tt) Γ x)
 
   project_modest : (b : Bool) → Modest (project_step p b)
   unfolding project_step
-  project_modest b synth Γ = project-synthesis (λ n. tt) Γ b
-  project_modest b (check A) Γ = expecting_thrifty one p A (project-synthesis (λ n. tt) Γ b)
+  project_modest b synth Γ = project_synthesis (λ n. tt) Γ b
+  project_modest b (check A) Γ = expecting_thrifty one p A (project_synthesis (λ n. tt) Γ b)
 
   app_modest : (q r : ℕ) → Modest (app_step p q r)
   unfolding app_step
-  app_modest q r synth Γ = app-synthesis (λ n. tt) Γ q r
-  app_modest q r (check A) Γ = expecting_thrifty two p A (app-synthesis (λ n. tt) Γ q r)
+  app_modest q r synth Γ = app_synthesis (λ n. tt) Γ q r
+  app_modest q r (check A) Γ = expecting_thrifty two p A (app_synthesis (λ n. tt) Γ q r)
 
   pair_modest : (q : ℕ) → Modest (pair_step p q)
   unfolding pair_step objected by
@@ -261,7 +261,7 @@ module _ (p : ℕ) where
   unfolding triple_step
   triple_modest (case x y) q = case_modest q x y
 
-__ A PROGRAM over children that have c nodes in all
+-- A PROGRAM over children that have c nodes in all
 abbrev After : {X : Type 0} → (X → St → Type 0) → Out X → Type 0
 After F (stop r) = Unit {0}
 After F (ok x st) = F x st
@@ -285,7 +285,7 @@ module _ {X : Type 0} (F : X → St → Type 0) where
   after_named r none k h = tt
   after_named r (some y) k h = h y
 
-__ an accepted run from m entries
+-- an accepted run from m entries
 abbrev Ran : (n m : ℕ) → St → Answer → St → Type 0
 Ran n m st a st₁ = Spent n st a st₁ × EveryGap (Reached n m st) a.tree
 
@@ -300,7 +300,7 @@ unfoldable kids : Arity → ℕ
 kids done = 0
 kids (more n) = suc (kids n)
 
-__ what it answers, and what it makes when u serials were made before
+-- what it answers, and what it makes when u serials were made before
 record Answered (P : List Node → Type 0) (n : Arity) (c : ℕ) (r : Steps) : Type 0 where
   pub nodes : P r.nodes
   pub width : width r.premises ≡ kids n
@@ -313,7 +313,7 @@ record Made (u c : ℕ) (st st₁ : St) : Type 0 where
   pub made_grow : st.made ≤ st₁.made
   pub within : st.made ≤ limit → st₁.made ≤ limit
 
-__ and by the time that it reaches a gap, from m entries
+-- and by the time that it reaches a gap, from m entries
 record Below (u c m : ℕ) (st : St) (g : Gap) : Type 0 where
   pub serials : u + (g.state.serials + 2) ≤ 2 + (st.serials + 2 * c)
   pub entries : length g.ctx + 2 ≤ m + (2 + 2 * c)
@@ -376,7 +376,7 @@ module _ (P : List Node → Type 0) (Γ : Ctx) where
       after_then (Taken m u e.1 st₁) (Taken n u c st) (obey (k a.ty) ks.1 st₁) _ (taken_obey (h a.ty) ks.1 e.1 e.4 st₁) (λ r st₂ l.
       taken_kid m u e.0 e.1 c Δ st st₁ st₂ a r z e.2 g l))
 
-__ its nodes stand over the premises
+-- its nodes stand over the premises
 over : (n : Arity) (ns : List Node) (ts : Trees) → Few n ns → width ts ≡ kids n → (width (stack ns ts) ≡ 1) × (records (stack ns ts) ≤ records ts + 2) × (holes (stack ns ts) ≡ holes ts)
 unfolding stack records holes width kids
 over n [] ts f e = (e ∙ ap kids f, omega arith, refl)
@@ -413,7 +413,7 @@ spent_sorry p (check A) Γ st = (
   (record { serials = omega arith; entries = omega arith }, tt),
 )
 
-__ THE THEOREM
+-- THE THEOREM
 spent_run : (t : Term) → SpentRun (run t) (nodes t)
 unfolding run nodes
 spent_run (leaf p k) = spent_perform (leaf_step p k) tt 0 (leaf_modest p k) refl

@@ -1,6 +1,6 @@
-__ Document 01, "The rules": what each kind of term answers when it is accepted, in checking and in synthesis. A row is the whole outcome: the type,
-__ the tree with every conclusion, and how many serials and propositions have been made.
-__ Assumes nothing.
+-- Document 01, "The rules": what each kind of term answers when it is accepted, in checking and in synthesis. A row is the whole outcome: the type,
+-- the tree with every conclusion, and how many serials and propositions have been made.
+-- Assumes nothing.
 use Rattle.std.specs.Prelude.{true, false, List, [], ◌∷◌, ℕ, ◌-◌}
 use Rattle.std.proofs.Math.Option.{none, some}
 use Rattle.rules.specs.Prop.{Param, free, ser, bound, made, Prop, Ty, const, atom, prop, datatype}
@@ -22,7 +22,7 @@ True = const made true
 abbrev pub False : Prop
 False = const made false
 
-__ two wordings of one proposition, and one proposition more
+-- two wordings of one proposition, and one proposition more
 abbrev pub all_x : Prop
 all_x = every x D (P (bound 0))
 
@@ -32,7 +32,7 @@ all_y = every y D (P (bound 0))
 abbrev pub some_x : Prop
 some_x = exist x D (P (bound 0))
 
-__ more names, and another datatype. Nothing is called u, and y and z are left to be bound
+-- more names, and another datatype. Nothing is called u, and y and z are left to be bound
 abbrev pub E : ℕ
 E = 1
 
@@ -66,7 +66,7 @@ n = 14
 abbrev pub u : ℕ
 u = 15
 
-__ EVERY ROW starts from this context, whose serials are 0 to 10, and with nothing made but those
+-- EVERY ROW starts from this context, whose serials are 0 to 10, and with nothing made but those
 unfoldable pub here : Ctx
 here =
     entry n 10 (prop False)
@@ -93,61 +93,61 @@ unfoldable pub synthesized : Term → Out Answer
 unfolding begin here
 synthesized t = run t synth here (counts 11 0)
 
-__ where only so many propositions may still be made
+-- where only so many propositions may still be made
 unfoldable pub with_room : ℕ → Want → Term → Out Answer
 unfolding begin here
 with_room c w t = run t w here (counts 11 (limit - c))
 
-__ a type; the serials and the propositions made by then; a tree: rule, term, conclusion, serials, premises
+-- a type; the serials and the propositions made by then; a tree: rule, term, conclusion, serials, premises
 abbrev answers : Ty → ℕ → ℕ → Trees → Out Answer
 answers T s m ts = ok (record { ty = T; tree = ts }) (counts s m)
 
 abbrev by : ℕ → ℕ → Ty → List ℕ → Trees → Trees
 by r p T is ts = node (record { rule = r; term = p; concludes = T; serials = is }) ts end
 
-__ the entry with the serial i, used by the term p
+-- the entry with the serial i, used by the term p
 abbrev uses : ℕ → ℕ → Ty → Trees
 uses p i T = by 0 p T (i ∷ []) end
 
 unfoldable pub kinds : List (Row (Out Answer))
 unfolding here
 kinds =
-    __ Ident: an entry of a datatype concludes a type judgement; another wording is an AlphaEq over it
+    -- Ident: an entry of a datatype concludes a type judgement; another wording is an AlphaEq over it
     (checked (ident 0 a) (prop A) gives answers (prop A) 11 0 (uses 0 2 (prop A)))
     ∷ (checked (ident 0 x) (datatype D) gives answers (datatype D) 11 0 (uses 0 0 (datatype D)))
     ∷ (checked (ident 0 g) (prop all_y) gives answers (prop all_y) 11 0 (by 16 0 (prop all_y) [] (uses 0 7 (prop all_x))))
     ∷ (synthesized (ident 0 a) gives answers (prop A) 11 0 (uses 0 2 (prop A)))
     ∷ (synthesized (ident 0 x) gives answers (datatype D) 11 0 (uses 0 0 (datatype D)))
-    __ Pair: And; Exists, which makes its body with the witness put in; synthesized, which makes an And
+    -- Pair: And; Exists, which makes its body with the witness put in; synthesized, which makes an And
     ∷ (checked (pair 0 (ident 1 a) (ident 2 b)) (prop (both A B)) gives answers (prop (both A B)) 11 0
     (by 2 0 (prop (both A B)) [] (uses 1 2 (prop A) ⊕ uses 2 3 (prop B))))
     ∷ (checked (pair 0 (ident 1 x) (app 2 (ident 3 g) (ident 4 x))) (prop some_x)
     gives answers (prop some_x) 11 2 (by 13 0 (prop some_x) [] (uses 1 0 (datatype D)
     ⊕ by 12 2 (prop (P (ser 0))) [] (uses 3 7 (prop all_x) ⊕ uses 4 0 (datatype D)))))
     ∷ (synthesized (pair 0 (ident 1 a) (ident 2 b)) gives answers (prop (both A B)) 11 1 (by 2 0 (prop (both A B)) [] (uses 1 2 (prop A) ⊕ uses 2 3 (prop B))))
-    __ ProjectFst, ProjectSnd
+    -- ProjectFst, ProjectSnd
     ∷ (checked (fst 0 (ident 1 c)) (prop A) gives answers (prop A) 11 0 (by 3 0 (prop A) [] (uses 1 4 (prop (both A B)))))
     ∷ (checked (snd 0 (ident 1 c)) (prop B) gives answers (prop B) 11 0 (by 4 0 (prop B) [] (uses 1 4 (prop (both A B)))))
     ∷ (synthesized (fst 0 (ident 1 c)) gives answers (prop A) 11 0 (by 3 0 (prop A) [] (uses 1 4 (prop (both A B)))))
     ∷ (synthesized (snd 0 (ident 1 c)) gives answers (prop B) 11 0 (by 4 0 (prop B) [] (uses 1 4 (prop (both A B)))))
-    __ Function: Impl; ForAll, which makes its body with the new identifier put in; an annotation is made, and the entry has the expected wording all
-    __ the same
+    -- Function: Impl; ForAll, which makes its body with the new identifier put in; an annotation is made, and the entry has the expected wording all
+    -- the same
     ∷ (checked (fun 0 y none (ident 1 y)) (prop (A ⇒ A)) gives answers (prop (A ⇒ A)) 12 0 (by 5 0 (prop (A ⇒ A)) (11 ∷ []) (uses 1 11 (prop A))))
     ∷ (checked (fun 0 z none (app 1 (ident 2 g) (ident 3 z))) (prop all_y)
     gives answers (prop all_y) 12 2 (by 11 0 (prop all_y) (11 ∷ []) (by 12 1 (prop (P (ser 11))) [] (uses 2 7 (prop all_x) ⊕ uses 3 11 (datatype D)))))
     ∷ (checked (fun 0 z (some (prop all_y)) (ident 1 z)) (prop (all_x ⇒ all_x))
     gives answers (prop (all_x ⇒ all_x)) 12 2 (by 5 0 (prop (all_x ⇒ all_x)) (11 ∷ []) (uses 1 11 (prop all_x))))
-    __ synthesized: an Impl, of the annotation with its names found, makes 1 more; a ForAll has the parameter's name and makes its body and 1 more
+    -- synthesized: an Impl, of the annotation with its names found, makes 1 more; a ForAll has the parameter's name and makes its body and 1 more
     ∷ (synthesized (fun 0 y (some (prop (P (free x)))) (ident 1 y))
     gives answers (prop (P (ser 0) ⇒ P (ser 0))) 12 2 (by 5 0 (prop (P (ser 0) ⇒ P (ser 0))) (11 ∷ []) (uses 1 11 (prop (P (ser 0))))))
     ∷ (synthesized (fun 0 y (some (datatype D)) (app 1 (ident 2 g) (ident 3 y)))
     gives answers (prop all_y) 12 3 (by 11 0 (prop all_y) (11 ∷ []) (by 12 1 (prop (P (ser 11))) [] (uses 2 7 (prop all_x) ⊕ uses 3 11 (datatype D)))))
-    __ Application: Impl; ForAll, which makes its body with the argument put in
+    -- Application: Impl; ForAll, which makes its body with the argument put in
     ∷ (checked (app 0 (ident 1 f) (ident 2 a)) (prop B) gives answers (prop B) 11 0 (by 6 0 (prop B) [] (uses 1 6 (prop (A ⇒ B)) ⊕ uses 2 2 (prop A))))
     ∷ (synthesized (app 0 (ident 1 f) (ident 2 a)) gives answers (prop B) 11 0 (by 6 0 (prop B) [] (uses 1 6 (prop (A ⇒ B)) ⊕ uses 2 2 (prop A))))
     ∷ (synthesized (app 0 (ident 1 g) (ident 2 x)) gives answers (prop (P (ser 0))) 11 1
     (by 12 0 (prop (P (ser 0))) [] (uses 1 7 (prop all_x) ⊕ uses 2 0 (datatype D))))
-    __ LetIn: the witness, then what is known of it; synthesized, the type may hold the second serial
+    -- LetIn: the witness, then what is known of it; synthesized, the type may hold the second serial
     ∷ (checked (let_in 0 y z (ident 1 e) (pair 2 (ident 3 y) (ident 4 z))) (prop some_x)
     gives answers (prop some_x) 13 2 (by 14 0 (prop some_x) (11 ∷ 12 ∷ []) (uses 1 9 (prop some_x)
     ⊕ by 13 2 (prop some_x) [] (uses 3 11 (datatype D) ⊕ uses 4 12 (prop (P (ser 11)))))))
@@ -156,10 +156,10 @@ kinds =
     ∷ (synthesized (let_in 0 y z (ident 1 e) (fun 2 z (some (prop (P (free z)))) (ident 3 a)))
     gives answers (prop (P (ser 12) ⇒ A)) 14 3
     (by 14 0 (prop (P (ser 12) ⇒ A)) (11 ∷ 12 ∷ []) (uses 1 9 (prop some_x) ⊕ by 5 2 (prop (P (ser 12) ⇒ A)) (13 ∷ []) (uses 3 2 (prop A)))))
-    __ OrLeft, OrRight
+    -- OrLeft, OrRight
     ∷ (checked (inl 0 (ident 1 a)) (prop (either A B)) gives answers (prop (either A B)) 11 0 (by 7 0 (prop (either A B)) [] (uses 1 2 (prop A))))
     ∷ (checked (inr 0 (ident 1 b)) (prop (either A B)) gives answers (prop (either A B)) 11 0 (by 8 0 (prop (either A B)) [] (uses 1 3 (prop B))))
-    __ Case: a serial before each arm; synthesized, it concludes the left arm's wording and answers the right's
+    -- Case: a serial before each arm; synthesized, it concludes the left arm's wording and answers the right's
     ∷ (checked (case 0 y z (ident 1 o) (inr 2 (ident 3 y)) (inl 4 (ident 5 z))) (prop (either B A))
     gives answers (prop (either B A)) 13 0
     (by 9 0 (prop (either B A)) (11 ∷ 12 ∷ []) (uses 1 5 (prop (either A B)) ⊕ by 8 2 (prop (either B A)) [] (uses 3 11 (prop A))
@@ -170,16 +170,16 @@ kinds =
     ⊕ by 5 4 (prop (A ⇒ A)) (14 ∷ []) (uses 5 14 (prop A)))))
     ∷ (synthesized (case 0 y z (ident 1 o) (ident 2 g) (ident 3 g'))
     gives answers (prop all_y) 13 0 (by 9 0 (prop all_x) (11 ∷ 12 ∷ []) (uses 1 5 (prop (either A B)) ⊕ uses 2 7 (prop all_x) ⊕ uses 3 8 (prop all_y))))
-    __ Abort makes its False; the limit may be reached
+    -- Abort makes its False; the limit may be reached
     ∷ (checked (abort 0 (ident 1 n)) (prop A) gives answers (prop A) 11 1 (by 10 0 (prop A) [] (uses 1 10 (prop False))))
     ∷ (with_room 1 (check (prop A)) (abort 0 (ident 1 n)) gives answers (prop A) 11 limit (by 10 0 (prop A) [] (uses 1 10 (prop False))))
-    __ Unit makes True where nothing was expected
+    -- Unit makes True where nothing was expected
     ∷ (checked (unit 0) (prop True) gives answers (prop True) 11 0 (by 1 0 (prop True) [] end))
     ∷ (synthesized (unit 0) gives answers (prop True) 11 1 (by 1 0 (prop True) [] end))
-    __ TypeAscription has no node: checked, the inside is held to the expected wording, synthesized, to its own
+    -- TypeAscription has no node: checked, the inside is held to the expected wording, synthesized, to its own
     ∷ (checked (ascribe 0 (prop all_y) (ident 1 g)) (prop all_x) gives answers (prop all_x) 11 2 (uses 1 7 (prop all_x)))
     ∷ (checked (ascribe 0 (datatype D) (ident 1 x)) (datatype D) gives answers (datatype D) 11 0 (uses 1 0 (datatype D)))
     ∷ (synthesized (ascribe 0 (prop all_y) (ident 1 g)) gives answers (prop all_y) 11 2 (by 16 1 (prop all_y) [] (uses 1 7 (prop all_x))))
-    __ Sorry: a gap, with all that was known there
+    -- Sorry: a gap, with all that was known there
     ∷ (checked (sorry 0) (prop A) gives answers (prop A) 11 0 (gap (record { term = 0; ctx = here; wanted = prop A; state = counts 11 0 }) end))
     ∷ []

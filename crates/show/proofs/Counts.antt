@@ -1,4 +1,4 @@
-__ What is read into the first part of a room is counted in the whole room. Assumes nothing.
+-- What is read into the first part of a room is counted in the whole room. Assumes nothing.
 use Prim.Native.Nat.{ℕ, ◌≤◌}
 use mathlib.Core.List.{List, ◌++◌}
 use mathlib.Core.Path.{sym}

@@ -1,5 +1,5 @@
-__ Case 13 as files: the edited tables byte by byte, and what every call of `fill` answers.
-__ Assumes nothing.
+-- Case 13 as files: the edited tables byte by byte, and what every call of `fill` answers.
+-- Assumes nothing.
 use mathlib.Core.Path.{◌≡◌, refl, ap, sym, subst, ◌∙◌}
 use mathlib.Core.Bool.{Bool, true, false, ◌&&◌}
 use mathlib.Core.List.{List, [], ◌∷◌}
@@ -32,7 +32,7 @@ use Rattle.starred.specs.Tables.{h, read}
 use Rattle.starred.specs.Fillings.{hole, with_hole, one_serial, Edits, FillPrints, FilledBy, NoGoal}
 use Rattle.starred.proofs.Printed.{tree_printed}
 
-__ A FINITE STATEMENT, from each of its cases
+-- A FINITE STATEMENT, from each of its cases
 abbrev Each : ℕ → (ℕ → Type 0) → Type 0
 Each zero F = Unit {0}
 Each (suc n) F = F 0 × Each n (λ i. F (suc i))
@@ -42,7 +42,7 @@ each_below zero F x i k = absurd (not-suc-le-zero k)
 each_below (suc n) F x zero k = x.0
 each_below (suc n) F x (suc i) k = each_below n (λ i. F (suc i)) x.1 i (le_of_suc-le-suc k)
 
-__ a list of bytes, by computation
+-- a list of bytes, by computation
 abbrev all_bytes : List ℕ → Bool
 all_bytes [] = true
 all_bytes (b ∷ bs) = ltb b 256 && all_bytes bs
@@ -56,7 +56,7 @@ bytes [] t i = leb→le 1 256 tt
 bytes (b ∷ bs) t zero = leb→le (suc b) 256 (both (ltb b 256) (all_bytes bs) t).0
 bytes (b ∷ bs) t (suc i) = bytes bs (both (ltb b 256) (all_bytes bs) t).1 i
 
-__ A FILLING whose goal and edited table are known: the answer is that of the filling's run
+-- A FILLING whose goal and edited table are known: the answer is that of the filling's run
 known_edit : (l f : List ℕ) (k : ℕ) (a : Answer) (st : St) (g : Gap) (e : List ℕ) → table_run l ≡ ok a st → tests Filling f ≡ Passes → ltb k (holes a.tree) ≡ true
     → (p : At g a.tree) → length (before p) ≡ k → Bytes e → Edited l f g.term e → edited_tests e ≡ Passes
     → (S S' : Lent) (r : Filled) → all_long S ≡ true → Fills S S' l f k r → RunAs S S' e g r (at_goal (term_at e g.term) g)
@@ -117,28 +117,28 @@ edits_unit =
       root = refl;
     }
 
-__ what the filling's run says is what is printed
+-- what the filling's run says is what is printed
 run_printed : (S S' : Lent) (e : List ℕ) (g : Gap) (r : Filled) (o : Out Answer) → RunAs S S' e g r o → FillPrints e S' (mark o) r
 unfolding mark
 run_printed S S' e g r (stop z) x = x.answer
 run_printed S S' e g r (ok b st) x =
     subst (FillPrints e S' (mark (ok b st))) (sym x.answer) (tree_printed e S'.rooms _ b.tree (counts_from g b st) refl refl x.rooms.holds.trees, x.table)
 
-__ 13 with h: the edited table is case 1, byte by byte
+-- 13 with h: the edited table is case 1, byte by byte
 pub filled_with_h : FilledBy case_13 by_h 0 case_1 (yes (line 0 1 (0 ∷ []) 0 ∷ []) [])
 unfolding before holes case_1 read
 filled_with_h S S' r long x =
     run_printed S S' case_1 hole r (at_goal (term_at case_1 1) hole)
     (known_edit case_13 by_h 0 with_hole one_serial hole case_1 run_13 edits_h.fills refl (within here) refl (bytes case_1 tt) edits_h.edited edits_h.passes S S' r long x)
 
-__ 13 with unit: 11 at 1 of the edited table
+-- 13 with unit: 11 at 1 of the edited table
 pub filled_with_unit : FilledBy case_13 by_unit 0 case_13_unit (no 11 1)
 unfolding before holes case_13_unit read
 filled_with_unit S S' r long x =
     run_printed S S' case_13_unit hole r (at_goal (term_at case_13_unit 1) hole)
     (known_edit case_13 by_unit 0 with_hole one_serial hole case_13_unit run_13 edits_unit.fills refl (within here) refl (bytes case_13_unit tt) edits_unit.edited edits_unit.passes S S' r long x)
 
-__ 13 has no goal 1
+-- 13 has no goal 1
 pub no_goal_1 : NoGoal case_13 by_unit 1
 unfolding holes
 no_goal_1 S S' r long x =

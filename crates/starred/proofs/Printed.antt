@@ -1,5 +1,5 @@
-__ Every call prints the mark that `rules` gives the table.
-__ Assumes nothing.
+-- Every call prints the mark that `rules` gives the table.
+-- Assumes nothing.
 use mathlib.Core.Path.{◌≡◌, refl, ap, sym, subst, ◌∙◌}
 use mathlib.Core.Bool.{Bool, true, false, cond}
 use mathlib.Core.List.{List, [], ◌∷◌, ◌++◌, map}
@@ -73,7 +73,7 @@ module _ (l : List ℕ) (R : Rooms) (c : ℕ) where
       goals_join R.goals m (goals ps) (goals ts) (goal_lines (n + 1) m ps h.1)
       (subst (λ (i : ℕ). GoalsAre R.goals i (map (λ g. goal g.term (length g.ctx)) (goals ts))) (omega (arith, holes_goals ps)) (goal_lines (n + 1 + records ps) (m + holes ps) ts h.2))
 
-__ the trees of an answer in their room, with counts that say how many they are
+-- the trees of an answer in their room, with counts that say how many they are
 pub tree_printed : (l : List ℕ) (R : Rooms) (n : ℕ) (ts : Trees) (c : Counts) → c.records ≡ records ts → c.goals ≡ holes ts → TreesAre l R n 0 0 ts
     → Yes R (lines ts) (map (λ g. goal g.term (length g.ctx)) (goals ts)) c
 tree_printed l R n ts c many few h =

@@ -1,8 +1,8 @@
-__ The files of the starred cases and of the marking errors, byte by byte, a record to a line; tests/starred/make.py writes them. The names are 10 h, 11 A,
-__ 12 B, 13 x, 14 y, 15 k, 16 g, 17 z, 18 D, 19 P. `case_1` is the table of docs/FORMAT.md, section 9. Assumes nothing.
+-- The files of the starred cases and of the marking errors, byte by byte, a record to a line; tests/starred/make.py writes them. The names are 10 h, 11 A,
+-- 12 B, 13 x, 14 y, 15 k, 16 g, 17 z, 18 D, 19 P. `case_1` is the table of docs/FORMAT.md, section 9. Assumes nothing.
 use Rattle.std.specs.Prelude.{List, [], ◌∷◌, ℕ}
 
-__ check fun h. h : A -> A
+-- check fun h. h : A -> A
 unfoldable pub case_1 : List ℕ
 case_1 =
     78 ∷ 68 ∷ 84 ∷ 0 ∷ 1 ∷ 0 ∷ 3 ∷ 0 ∷ 2 ∷ 0 ∷ 2 ∷ 0 ∷ 0 ∷ 0 ∷ 0 ∷ 0
@@ -13,7 +13,7 @@ case_1 =
     ∷ 0 ∷ 0 ∷ 0 ∷ 0 ∷ 10 ∷ 0 ∷ 0 ∷ 0 ∷ 0 ∷ 0 ∷ 0 ∷ 0 ∷ 0 ∷ 0 ∷ 0 ∷ 0
     ∷ []
 
-__ check fun h. fun h. h : A -> (B -> B)
+-- check fun h. fun h. h : A -> (B -> B)
 unfoldable pub case_3 : List ℕ
 case_3 =
     78 ∷ 68 ∷ 84 ∷ 0 ∷ 1 ∷ 0 ∷ 5 ∷ 0 ∷ 3 ∷ 0 ∷ 4 ∷ 0 ∷ 0 ∷ 0 ∷ 0 ∷ 0
@@ -27,7 +27,7 @@ case_3 =
     ∷ 0 ∷ 0 ∷ 0 ∷ 0 ∷ 10 ∷ 0 ∷ 0 ∷ 0 ∷ 0 ∷ 0 ∷ 0 ∷ 0 ∷ 0 ∷ 0 ∷ 0 ∷ 0
     ∷ []
 
-__ check fun h. fun h. h : A -> (B -> A)
+-- check fun h. fun h. h : A -> (B -> A)
 unfoldable pub case_3_other : List ℕ
 case_3_other =
     78 ∷ 68 ∷ 84 ∷ 0 ∷ 1 ∷ 0 ∷ 5 ∷ 0 ∷ 3 ∷ 0 ∷ 4 ∷ 0 ∷ 0 ∷ 0 ∷ 0 ∷ 0
@@ -41,7 +41,7 @@ case_3_other =
     ∷ 0 ∷ 0 ∷ 0 ∷ 0 ∷ 10 ∷ 0 ∷ 0 ∷ 0 ∷ 0 ∷ 0 ∷ 0 ∷ 0 ∷ 0 ∷ 0 ∷ 0 ∷ 0
     ∷ []
 
-__ check fun x. fun h. (x, h) : all x:D. (P(x) -> ex y:D. P(y))
+-- check fun x. fun h. (x, h) : all x:D. (P(x) -> ex y:D. P(y))
 unfoldable pub case_4 : List ℕ
 case_4 =
     78 ∷ 68 ∷ 84 ∷ 0 ∷ 1 ∷ 0 ∷ 5 ∷ 0 ∷ 5 ∷ 0 ∷ 4 ∷ 0 ∷ 0 ∷ 0 ∷ 0 ∷ 0
@@ -57,7 +57,7 @@ case_4 =
     ∷ 0 ∷ 0 ∷ 0 ∷ 0 ∷ 10 ∷ 0 ∷ 0 ∷ 0 ∷ 0 ∷ 0 ∷ 0 ∷ 0 ∷ 0 ∷ 0 ∷ 0 ∷ 0
     ∷ []
 
-__ check abort unit : A
+-- check abort unit : A
 unfoldable pub case_6 : List ℕ
 case_6 =
     78 ∷ 68 ∷ 84 ∷ 0 ∷ 1 ∷ 0 ∷ 1 ∷ 0 ∷ 2 ∷ 0 ∷ 0 ∷ 0 ∷ 0 ∷ 0 ∷ 0 ∷ 0
@@ -66,7 +66,7 @@ case_6 =
     ∷ 11 ∷ 0 ∷ 0 ∷ 0 ∷ 0 ∷ 0 ∷ 0 ∷ 0 ∷ 0 ∷ 0 ∷ 0 ∷ 0 ∷ 0 ∷ 0 ∷ 0 ∷ 0
     ∷ []
 
-__ check fun h. let (x, k) = h in (x, k) : (ex x:D. P(x)) -> ex y:D. P(y)
+-- check fun h. let (x, k) = h in (x, k) : (ex x:D. P(x)) -> ex y:D. P(y)
 unfoldable pub case_9 : List ℕ
 case_9 =
     78 ∷ 68 ∷ 84 ∷ 0 ∷ 1 ∷ 0 ∷ 5 ∷ 0 ∷ 6 ∷ 0 ∷ 4 ∷ 0 ∷ 0 ∷ 0 ∷ 0 ∷ 0
@@ -83,7 +83,7 @@ case_9 =
     ∷ 0 ∷ 0 ∷ 0 ∷ 0 ∷ 15 ∷ 0 ∷ 0 ∷ 0 ∷ 0 ∷ 0 ∷ 0 ∷ 0 ∷ 0 ∷ 0 ∷ 0 ∷ 0
     ∷ []
 
-__ check fun h. h : (all x:D. P(x)) -> all y:D. P(y)
+-- check fun h. h : (all x:D. P(x)) -> all y:D. P(y)
 unfoldable pub case_10 : List ℕ
 case_10 =
     78 ∷ 68 ∷ 84 ∷ 0 ∷ 1 ∷ 0 ∷ 5 ∷ 0 ∷ 2 ∷ 0 ∷ 4 ∷ 0 ∷ 0 ∷ 0 ∷ 0 ∷ 0
@@ -96,7 +96,7 @@ case_10 =
     ∷ 0 ∷ 0 ∷ 0 ∷ 0 ∷ 10 ∷ 0 ∷ 0 ∷ 0 ∷ 0 ∷ 0 ∷ 0 ∷ 0 ∷ 0 ∷ 0 ∷ 0 ∷ 0
     ∷ []
 
-__ check fun g. fun z. ((fun x:@D. g x) z) : (all y:D. all x:D. P(y, x)) -> all z:D. all x:D. P(z, x)
+-- check fun g. fun z. ((fun x:@D. g x) z) : (all y:D. all x:D. P(y, x)) -> all z:D. all x:D. P(z, x)
 unfoldable pub case_12 : List ℕ
 case_12 =
     78 ∷ 68 ∷ 84 ∷ 0 ∷ 1 ∷ 0 ∷ 7 ∷ 0 ∷ 8 ∷ 0 ∷ 6 ∷ 0 ∷ 0 ∷ 0 ∷ 0 ∷ 0
@@ -117,7 +117,7 @@ case_12 =
     ∷ 0 ∷ 0 ∷ 0 ∷ 0 ∷ 17 ∷ 0 ∷ 0 ∷ 0 ∷ 0 ∷ 0 ∷ 0 ∷ 0 ∷ 0 ∷ 0 ∷ 0 ∷ 0
     ∷ []
 
-__ check fun h. sorry : A -> A
+-- check fun h. sorry : A -> A
 unfoldable pub case_13 : List ℕ
 case_13 =
     78 ∷ 68 ∷ 84 ∷ 0 ∷ 1 ∷ 0 ∷ 3 ∷ 0 ∷ 2 ∷ 0 ∷ 2 ∷ 0 ∷ 0 ∷ 0 ∷ 0 ∷ 0
@@ -128,7 +128,7 @@ case_13 =
     ∷ 13 ∷ 0 ∷ 0 ∷ 0 ∷ 0 ∷ 0 ∷ 0 ∷ 0 ∷ 0 ∷ 0 ∷ 0 ∷ 0 ∷ 0 ∷ 0 ∷ 0 ∷ 0
     ∷ []
 
-__ check fun h. unit : A -> A
+-- check fun h. unit : A -> A
 unfoldable pub case_13_unit : List ℕ
 case_13_unit =
     78 ∷ 68 ∷ 84 ∷ 0 ∷ 1 ∷ 0 ∷ 3 ∷ 0 ∷ 2 ∷ 0 ∷ 2 ∷ 0 ∷ 0 ∷ 0 ∷ 0 ∷ 0
@@ -139,21 +139,21 @@ case_13_unit =
     ∷ 11 ∷ 0 ∷ 0 ∷ 0 ∷ 0 ∷ 0 ∷ 0 ∷ 0 ∷ 0 ∷ 0 ∷ 0 ∷ 0 ∷ 0 ∷ 0 ∷ 0 ∷ 0
     ∷ []
 
-__ filling h
+-- filling h
 unfoldable pub by_h : List ℕ
 by_h =
     78 ∷ 68 ∷ 84 ∷ 0 ∷ 1 ∷ 0 ∷ 0 ∷ 0 ∷ 1 ∷ 0 ∷ 255 ∷ 255 ∷ 0 ∷ 0 ∷ 0 ∷ 0
     ∷ 0 ∷ 0 ∷ 0 ∷ 0 ∷ 10 ∷ 0 ∷ 0 ∷ 0 ∷ 0 ∷ 0 ∷ 0 ∷ 0 ∷ 0 ∷ 0 ∷ 0 ∷ 0
     ∷ []
 
-__ filling unit
+-- filling unit
 unfoldable pub by_unit : List ℕ
 by_unit =
     78 ∷ 68 ∷ 84 ∷ 0 ∷ 1 ∷ 0 ∷ 0 ∷ 0 ∷ 1 ∷ 0 ∷ 255 ∷ 255 ∷ 0 ∷ 0 ∷ 0 ∷ 0
     ∷ 11 ∷ 0 ∷ 0 ∷ 0 ∷ 0 ∷ 0 ∷ 0 ∷ 0 ∷ 0 ∷ 0 ∷ 0 ∷ 0 ∷ 0 ∷ 0 ∷ 0 ∷ 0
     ∷ []
 
-__ check fun x. fun x. fun h. (x, h) : all x:D. all y:D. (P(y) -> ex y:D. P(y))
+-- check fun x. fun x. fun h. (x, h) : all x:D. all y:D. (P(y) -> ex y:D. P(y))
 unfoldable pub oldest_witness : List ℕ
 oldest_witness =
     78 ∷ 68 ∷ 84 ∷ 0 ∷ 1 ∷ 0 ∷ 6 ∷ 0 ∷ 6 ∷ 0 ∷ 5 ∷ 0 ∷ 0 ∷ 0 ∷ 0 ∷ 0
@@ -171,7 +171,7 @@ oldest_witness =
     ∷ 0 ∷ 0 ∷ 0 ∷ 0 ∷ 10 ∷ 0 ∷ 0 ∷ 0 ∷ 0 ∷ 0 ∷ 0 ∷ 0 ∷ 0 ∷ 0 ∷ 0 ∷ 0
     ∷ []
 
-__ check fun x. fun x. fun h:[P(x)]. h : all x:D. all y:D. (P(y) -> P(y))
+-- check fun x. fun x. fun h:[P(x)]. h : all x:D. all y:D. (P(y) -> P(y))
 unfoldable pub oldest_name : List ℕ
 oldest_name =
     78 ∷ 68 ∷ 84 ∷ 0 ∷ 1 ∷ 0 ∷ 6 ∷ 0 ∷ 4 ∷ 0 ∷ 5 ∷ 0 ∷ 0 ∷ 0 ∷ 0 ∷ 0
@@ -187,7 +187,7 @@ oldest_name =
     ∷ 0 ∷ 0 ∷ 0 ∷ 0 ∷ 10 ∷ 0 ∷ 0 ∷ 0 ∷ 0 ∷ 0 ∷ 0 ∷ 0 ∷ 0 ∷ 0 ∷ 0 ∷ 0
     ∷ []
 
-__ check fun h. case h of x. x ; y. x end : A | A -> A
+-- check fun h. case h of x. x ; y. x end : A | A -> A
 unfoldable pub left_kept : List ℕ
 left_kept =
     78 ∷ 68 ∷ 84 ∷ 0 ∷ 1 ∷ 0 ∷ 5 ∷ 0 ∷ 5 ∷ 0 ∷ 4 ∷ 0 ∷ 0 ∷ 0 ∷ 0 ∷ 0
@@ -203,7 +203,7 @@ left_kept =
     ∷ 0 ∷ 0 ∷ 0 ∷ 0 ∷ 13 ∷ 0 ∷ 0 ∷ 0 ∷ 0 ∷ 0 ∷ 0 ∷ 0 ∷ 0 ∷ 0 ∷ 0 ∷ 0
     ∷ []
 
-__ check case (sorry : [A | B]) of x. sorry ; y. sorry end : A
+-- check case (sorry : [A | B]) of x. sorry ; y. sorry end : A
 unfoldable pub left_counted : List ℕ
 left_counted =
     78 ∷ 68 ∷ 84 ∷ 0 ∷ 1 ∷ 0 ∷ 4 ∷ 0 ∷ 5 ∷ 0 ∷ 3 ∷ 0 ∷ 0 ∷ 0 ∷ 0 ∷ 0
@@ -218,7 +218,7 @@ left_counted =
     ∷ 13 ∷ 0 ∷ 0 ∷ 0 ∷ 0 ∷ 0 ∷ 0 ∷ 0 ∷ 0 ∷ 0 ∷ 0 ∷ 0 ∷ 0 ∷ 0 ∷ 0 ∷ 0
     ∷ []
 
-__ check fst (abort unit : @D) : A
+-- check fst (abort unit : @D) : A
 unfoldable pub abort_first : List ℕ
 abort_first =
     78 ∷ 68 ∷ 84 ∷ 0 ∷ 1 ∷ 0 ∷ 1 ∷ 0 ∷ 4 ∷ 0 ∷ 0 ∷ 0 ∷ 0 ∷ 0 ∷ 0 ∷ 0
@@ -229,7 +229,7 @@ abort_first =
     ∷ 11 ∷ 0 ∷ 0 ∷ 0 ∷ 0 ∷ 0 ∷ 0 ∷ 0 ∷ 0 ∷ 0 ∷ 0 ∷ 0 ∷ 0 ∷ 0 ∷ 0 ∷ 0
     ∷ []
 
-__ check fst (abort sorry : @D) : A
+-- check fst (abort sorry : @D) : A
 unfoldable pub abort_last : List ℕ
 abort_last =
     78 ∷ 68 ∷ 84 ∷ 0 ∷ 1 ∷ 0 ∷ 1 ∷ 0 ∷ 4 ∷ 0 ∷ 0 ∷ 0 ∷ 0 ∷ 0 ∷ 0 ∷ 0

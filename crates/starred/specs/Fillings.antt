@@ -1,5 +1,5 @@
-__ Document 01, case 13, as files: the old table with its goal, the two fillings, and the edited tables.
-__ Assumes nothing.
+-- Document 01, case 13, as files: the old table with its goal, the two fillings, and the edited tables.
+-- Assumes nothing.
 use Rattle.std.specs.Prelude.{◌≡◌, true, List, [], ◌∷◌, ℕ, length, take}
 use Rattle.numbers.specs.Refusals.{refusal_at}
 use Rattle.rules.specs.Prop.{prop}
@@ -21,7 +21,7 @@ use Rattle.filling.specs.Fill.{Lent, all_long, Fills}
 use Rattle.starred.specs.Printed.{Yes}
 use Rattle.starred.specs.Tables.{h, A}
 
-__ the goal of "fun h. sorry", its tree, and what the check answers
+-- the goal of "fun h. sorry", its tree, and what the check answers
 abbrev pub hole : Gap
 hole = record { term = 1; ctx = entry h 0 (prop (from 0 A)) ∷ []; wanted = prop (from 1 A); state = record { serials = 1; made = 0 } }
 
@@ -35,7 +35,7 @@ with_hole =
 abbrev pub one_serial : St
 one_serial = record { serials = 1; made = 0 }
 
-__ A FILLING f of goal k, the Sorry record q, by u: the edited table is e, byte by byte, and it reads as the plugged script
+-- A FILLING f of goal k, the Sorry record q, by u: the edited table is e, byte by byte, and it reads as the plugged script
 pub record Edits (l f : List ℕ) (q : ℕ) (u : Term) (e : List ℕ) : Type 0 where
   pub fills : tests Filling f ≡ Passes
   pub edited : Edited l f q e
@@ -43,16 +43,16 @@ pub record Edits (l f : List ℕ) (q : ℕ) (u : Term) (e : List ℕ) : Type 0 w
   pub hole : term_at e q ≡ u
   pub root : term_at e 0 ≡ plug q u (term_at l 0)
 
-__ THE ANSWER r to such a filling, and the rooms it left, as the program prints them: the filling's own mark, and once accepted the edited table's bytes
+-- THE ANSWER r to such a filling, and the rooms it left, as the program prints them: the filling's own mark, and once accepted the edited table's bytes
 abbrev pub FillPrints : List ℕ → Lent → Mark → Filled → Type 0
 FillPrints e S (no n p) r = r ≡ filled.Refused (refusal_at n p) Edit
 FillPrints e S (yes ls gs) (filled.Accepted c) = Yes S.rooms ls gs c × (take (length e) S.edited ≡ e)
 FillPrints e S (yes ls gs) (filled.Refused z w) = ⊥
 
-__ goal k of l FILLED with f is marked m by every call, whatever its rooms held, and makes the table e
+-- goal k of l FILLED with f is marked m by every call, whatever its rooms held, and makes the table e
 abbrev pub FilledBy : (l f : List ℕ) → ℕ → (e : List ℕ) → Mark → Type 0
 FilledBy l f k e m = (S S' : Lent) (r : Filled) → all_long S ≡ true → Fills S S' l f k r → FillPrints e S' m r
 
-__ l has no goal k, whatever is to fill it
+-- l has no goal k, whatever is to fill it
 abbrev pub NoGoal : (l f : List ℕ) → ℕ → Type 0
 NoGoal l f k = (S S' : Lent) (r : Filled) → all_long S ≡ true → Fills S S' l f k r → r ≡ filled.Refused (refusal_at 31 0) Old

@@ -1,4 +1,4 @@
-__ A term's annotation, as the code reads it from the record and as the rules have it. Assumes nothing.
+-- A term's annotation, as the code reads it from the record and as the rules have it. Assumes nothing.
 use mathlib.Core.Path.{◌≡◌, refl, ap, sym, subst, subst⁻¹, ◌∙◌}
 use mathlib.Core.List.{List, []}
 use mathlib.Core.Option.{some}
@@ -18,7 +18,7 @@ use Rattle.step.specs.declared.typing.Annotation.TheVariants as annotation
 use Rattle.step.specs.Rooms.{Table, Loaded}
 use Rattle.step.specs.Steps.{annotation_of, AnnotationIn, saying}
 
-__ FROM TAG AND NUMBER: a proposition is one of the table's
+-- FROM TAG AND NUMBER: a proposition is one of the table's
 module _ {l ps : List ℕ} {c : ℕ} (loaded : Loaded l ps c) where
   says_at : (tag m : ℕ) → (tag ≡ 1 → m < props l) → saying l ps (annotation_of tag m) ≡ type_of l tag m
   unfolding type_of
@@ -41,7 +41,7 @@ given_at zero m h x = omega arith
 given_at (suc zero) m h x = x
 given_at (suc (suc t)) m h x = x
 
-__ OF TERM k, whose record is r
+-- OF TERM k, whose record is r
 module _ {l : List ℕ} (table : Table l) {k : ℕ} (h : k < terms l) (r : TermRecord) (er : r ≡ term_record l k) (ann : Annotation) (ea : ann ≡ annotation_of r.tag r.typ) where
   known : r.tag ≡ 1 → r.typ < props l
   unfolding annotation_links
@@ -53,17 +53,17 @@ module _ {l : List ℕ} (table : Table l) {k : ℕ} (h : k < terms l) (r : TermR
           annotation_in table.directed k m h (subst⁻¹ (λ (t : ℕ). 0 < hits m (annotation_links t m)) e (hit_here m []))
 
   module _ {ps : List ℕ} {c : ℕ} (loaded : Loaded l ps c) where
-    __ what it says to the rules
-    pub annotation-says : saying l ps ann ≡ annotated l k
-    annotation-says = ap (saying l ps) ea ∙ says_at loaded r.tag r.typ known ∙ ap (λ (r : TermRecord). type_of l r.tag r.typ) er
+    -- what it says to the rules
+    pub annotation_says : saying l ps ann ≡ annotated l k
+    annotation_says = ap (saying l ps) ea ∙ says_at loaded r.tag r.typ known ∙ ap (λ (r : TermRecord). type_of l r.tag r.typ) er
 
-    pub annotation-among : AnnotationIn c ann
-    annotation-among = subst⁻¹ (AnnotationIn c) ea (in_at loaded r.tag r.typ known)
+    pub annotation_among : AnnotationIn c ann
+    annotation_among = subst⁻¹ (AnnotationIn c) ea (in_at loaded r.tag r.typ known)
 
-  __ an ascription has one
+  -- an ascription has one
   pub annotation_given : (term_record l k).kind ≡ 12 → ann ≡ annotation.Missing → ⊥
   unfolding is_missing kind_of kinds term_shape
-  annotation_given kind e = given_at r.tag r.typ some-tag (subst is_missing (sym e ∙ ea) tt)
+  annotation_given kind e = given_at r.tag r.typ some_tag (subst is_missing (sym e ∙ ea) tt)
     where
-      some-tag : 1 ≤ r.tag
-      some-tag = subst⁻¹ (λ (r : TermRecord). 1 ≤ r.tag) er (subst (λ (n : ℕ). (term_shape (kind_of n)).least ≤ (term_record l k).tag) kind (tag_range table.formed k h).0)
+      some_tag : 1 ≤ r.tag
+      some_tag = subst⁻¹ (λ (r : TermRecord). 1 ≤ r.tag) er (subst (λ (n : ℕ). (term_shape (kind_of n)).least ≤ (term_record l k).tag) kind (tag_range table.formed k h).0)

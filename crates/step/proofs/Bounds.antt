@@ -1,4 +1,4 @@
-__ What `count_of`, `inner` and `object_of` ask, from what a run begins with. Assumes nothing.
+-- What `count_of`, `inner` and `object_of` ask, from what a run begins with. Assumes nothing.
 use mathlib.Core.Path.{◌≡◌}
 use mathlib.Core.List.{List}
 use Prim.Native.Nat.{ℕ, ◌+◌, ◌*◌, ◌<◌, ◌≤◌}
@@ -13,25 +13,25 @@ use Rattle.step.specs.Rooms.{Rooms, count_of, Base}
 use Rattle.step.specs.Contract.{Ready}
 use Rattle.step.proofs.Doing.{nodes_some}
 
-__ the table has a header, and the room has so many propositions
+-- the table has a header, and the room has so many propositions
 pub base_header : {l : List ℕ} {R : Rooms} {st : State} → Base l R st → 16 ≤ length l
 base_header b = omega (arith, b.table.counted.long)
 
 pub base_count : {l : List ℕ} {R : Rooms} {st : State} → Base l R st → count_of l st ≤ most_records
 base_count b = omega (arith, b.table.counted.propositions, b.made)
 
-__ one record more can be counted, also where propositions were made
+-- one record more can be counted, also where propositions were made
 pub ready_inner : {l : List ℕ} {R : Rooms} {k : ℕ} {st : State} → Ready l R k st → (s : State) → s.records ≡ st.records → s.records < largest
 ready_inner {l} {k = k} rd s e = omega (arith, rd.records, nodes_some (term_at l k))
 
-__ the entries are in the room
+-- the entries are in the room
 pub ready_work : {l : List ℕ} {R : Rooms} {k : ℕ} {st : State} → Ready l R k st → 8 * st.context ≤ length R.work
 ready_work rd = omega (arith, rd.context, rd.base.table.counted.few, rd.base.work_room)
 
 pub ready_context : {l : List ℕ} {R : Rooms} {k : ℕ} {st : State} → Ready l R k st → st.context ≤ most_entries
 ready_context rd = omega (arith, rd.context, rd.base.table.counted.few)
 
-__ a record, and a goal, has its place
+-- a record, and a goal, has its place
 pub ready_tree : {l : List ℕ} {R : Rooms} {k : ℕ} {st : State} → Ready l R k st → 16 * st.records + 16 ≤ length R.tree
 ready_tree {l} {k = k} rd = omega (arith, rd.records, nodes_some (term_at l k), rd.base.tree_room)
 

@@ -1,5 +1,5 @@
-__ In the middle of a rule: the code has done what the rules have, up to the rest of the rule's program. One law for each thing that a rule does.
-__ Assumes nothing.
+-- In the middle of a rule: the code has done what the rules have, up to the rest of the rule's program. One law for each thing that a rule does.
+-- Assumes nothing.
 use mathlib.Core.Path.{◌≡◌, refl, ap, sym, subst, subst⁻¹, ◌∙◌}
 use mathlib.Core.List.{List, [], ◌∷◌}
 use Prim.Native.Nat.{ℕ, ◌+◌, ◌*◌, ◌<◌, ◌≤◌}
@@ -48,7 +48,7 @@ ok_ty : {a b : Answer} {st st₁ : St} → ok a st ≡ ok b st₁ → a.ty ≡ b
 unfolding ty_of
 ok_ty {a} e = ap (ty_of a.ty) e
 
-__ a check answers what was expected
+-- a check answers what was expected
 finish_answers : (A : Ty) (o : Out Steps) {a : Answer} {st : St} → then o (finish (check A)) ≡ ok a st → a.ty ≡ A
 unfolding then finish answered
 finish_answers A (stop r) e = absurd (refused_ok e)
@@ -73,7 +73,7 @@ nodes_some (sorry p) = omega arith
 pub leaving_same : (s : State) (n : ℕ) → s.context ≡ n → s ≡ leaving s n
 leaving_same s n e i = record { records = s.records; goals = s.goals; serials = s.serials; made = s.made; context = e i; asked = s.asked }
 
-__ THE BEGINNING
+-- THE BEGINNING
 pub doing_start : {l : List ℕ} {R : Rooms} {k : ℕ} {w : Mode} {st : State} {a : Arity} (q : Prog a) (ks : Kids a) → Ready l R k st → run_of l R k w st ≡ rest w end (obey q ks (st_of st)) → Doing l R k w st R (inner st) q ks 0 0 0
 unfolding records holes width
 doing_start q ks rd e =
@@ -89,7 +89,7 @@ doing_start q ks rd e =
     }
 
 module _ {l : List ℕ} {R₀ : Rooms} {k : ℕ} {w : Mode} {st₀ : State} {R : Rooms} {st : State} {a : Arity} {q : Prog a} {ks : Kids a} {used own wide : ℕ} where
-  __ what holds of the rooms
+  -- what holds of the rooms
   pub doing_base : Base l R₀ st₀ → Doing l R₀ k w st₀ R st q ks used own wide → Base l R st
   doing_base b d =
       let f = d.left.grown in
@@ -104,19 +104,19 @@ module _ {l : List ℕ} {R₀ : Rooms} {k : ℕ} {w : Mode} {st₀ : State} {R :
         work_room = omega (arith, b.work_room, f.work_long);
       }
 
-  __ the context is the one that the rule was given
+  -- the context is the one that the rule was given
   pub doing_ctx : Base l R₀ st₀ → Doing l R₀ k w st₀ R st q ks used own wide → ctx_of l R.props R.work st₀.context ≡ ctx_of l R₀.props R₀.work st₀.context
   doing_ctx b d = ctx_kept l b.loaded.arena d.left.grown st₀.context (omega arith) b.entries
 
-  __ what stood for a type still does
+  -- what stood for a type still does
   pub doing_stands : {T : Sort} {A : Ty} → Base l R₀ st₀ → Doing l R₀ k w st₀ R st q ks used own wide → Stands l R₀.props (count_of l st₀) T A → Stands l R.props (count_of l st) T A
   doing_stands b d s = stands_kept l b.loaded.arena d.left.grown s
 
-  __ the rest of the program is the same as another
+  -- the rest of the program is the same as another
   pub doing_same : {q' : Prog a} → q ≡ q' → Doing l R₀ k w st₀ R st q ks used own wide → Doing l R₀ k w st₀ R st q' ks used own wide
   doing_same e d = subst (λ (q : Prog a). Doing l R₀ k w st₀ R st q ks used own wide) e d
 
-  __ a step without a premise, which may make j serials
+  -- a step without a premise, which may make j serials
   pub doing_step : {R' : Rooms} {st' : State} (q' : Prog a) (j : ℕ) → Doing l R₀ k w st₀ R st q ks used own wide → Left l R R' st st' end → st'.made ≤ limit → st'.serials ≤ st.serials + j → obey q ks (st_of st) ≡ obey q' ks (st_of st')
       → Doing l R₀ k w st₀ R' st' q' ks used (own + j) wide
   doing_step {R'} {st'} q' j d f m s e =
@@ -131,7 +131,7 @@ module _ {l : List ℕ} {R₀ : Rooms} {k : ℕ} {w : Mode} {st₀ : State} {R :
         broad = d.broad;
       }
 
-  __ a child may be run: it and those before it are among the term's nodes, and at most two serials and two entries are the rule's own
+  -- a child may be run: it and those before it are among the term's nodes, and at most two serials and two entries are the rule's own
   pub doing_ready : {s : State} (m j : ℕ) → Ready l R₀ k st₀ → Doing l R₀ k w st₀ R st q ks used own wide → m < terms l → 1 + used + nodes (term_at l m) ≤ nodes (term_at l k) → own ≤ 2 → j ≤ 2
       → s ≡ leaving st (st.context + j) → Entries R.work (st.context + j) (count_of l st) → Ready l R m s
   doing_ready {s} m j rd d h n a b e t =
@@ -158,18 +158,18 @@ module _ {l : List ℕ} {R₀ : Rooms} {k : ℕ} {w : Mode} {st₀ : State} {R :
         context = omega (arith, rd.context);
       }
 
-  __ THE END, where the program stops
+  -- THE END, where the program stops
   pub doing_stop : (r : Fault) → Doing l R₀ k w st₀ R st q ks used own wide → obey q ks (st_of st) ≡ stop r → run_of l R₀ k w st₀ ≡ stop r
   doing_stop r d e = d.rule ∙ ap (rest w d.trees) e ∙ rest_refused w d.trees r
 
-__ A PREMISE. It ran in a context of n entries, and the rule goes on with as many as before
+-- A PREMISE. It ran in a context of n entries, and the rule goes on with as many as before
 module _ {l : List ℕ} {R₀ : Rooms} {k : ℕ} {w : Mode} {st₀ : State} {R : Rooms} {st s : State} {used own wide : ℕ} (m n : ℕ) {a : Arity} {w' : Mode} {Γ' : Ctx} {q : Ty → Prog a} {ks : Kids a}
     (d : Doing l R₀ k w st₀ R st (ask w' Γ' q) (kid_at l m, ks) used own wide) (deep : st.context ≤ n) (es : s ≡ leaving st n) (eΓ : Γ' ≡ ctx_of l R.props R.work n)
     (v : Want) (e : w' ≡ mode l R.props v) (R₁ : Rooms) where
   asked : run (term_at l m) w' Γ' (st_of st) ≡ run_of l R m (mode l R.props v) s
   asked = (λ i. run (term_at l m) (e i) (eΓ i) (st_of st)) ∙ sym (ap (run_of l R m (mode l R.props v)) es)
 
-  __ what it answers is the type that the rule goes on with
+  -- what it answers is the type that the rule goes on with
   pub doing_went : {T : Sort} {s₁ : State} → RanAs l R R₁ m v s (ran.Has T s₁)
       → (A : Ty) × Stands l R₁.props (count_of l s₁) T A × Doing l R₀ k w st₀ R₁ (leaving s₁ st.context) (q A) ks (used + nodes (term_at l m)) own (wide + 1)
   doing_went {s₁ = s₁} ans =
@@ -192,11 +192,11 @@ module _ {l : List ℕ} {R₀ : Rooms} {k : ℕ} {w : Mode} {st₀ : State} {R :
         },
       )
 
-  __ its refusal is the rule's
+  -- its refusal is the rule's
   pub doing_refused : (r : Refusal) → RanAs l R R₁ m v s (ran.Refused r) → Refuses (run_of l R₀ k w st₀) r
   doing_refused r h = doing_stop (refusal_of r) d (ask_refused w' Γ' q (kid_at l m, ks) (st_of st) (refusal_of r) (asked ∙ h))
 
-__ THE NODE, put in the record that was kept for it
+-- THE NODE, put in the record that was kept for it
 module _ {l : List ℕ} {R₀ : Rooms} {k : ℕ} {w : Mode} {st₀ : State} {R : Rooms} {st : State} {a : Arity} {q : Prog a} {ks : Kids a} {used own wide : ℕ} where
   pub doing_put : Ready l R₀ k st₀ → Doing l R₀ k w st₀ R st q ks used own wide → 16 * st₀.records + 16 ≤ length R.tree
   doing_put rd d = omega (arith, rd.records, nodes_some (term_at l k), rd.base.tree_room, d.left.grown.tree_long)
@@ -243,8 +243,8 @@ module _ {l : List ℕ} {R₀ : Rooms} {k : ℕ} {w : Mode} {st₀ : State} {R :
               };
         }
 
-    pub doing-has : {U : Sort} → Stands l R.props (count_of l st) U (answered w B) → Answers l R₀ (rooms tr R.goals R.props R.work) st₀ st U (run_of l R₀ k w st₀)
-    doing-has u =
+    pub doing_has : {U : Sort} → Stands l R.props (count_of l st) U (answered w B) → Answers l R₀ (rooms tr R.goals R.props R.work) st₀ st U (run_of l R₀ k w st₀)
+    doing_has u =
         record {
           accepted = record { answer = record { ty = answered w B; tree = node (record { rule = rule; term = k; concludes = A; serials = is }) d.trees end }; accepts = concluded; left = topped };
           type = u;

@@ -1,4 +1,4 @@
-__ What rooms that have grown keep: types, contexts and trees mean the same. Assumes nothing.
+-- What rooms that have grown keep: types, contexts and trees mean the same. Assumes nothing.
 use mathlib.Core.Path.{◌≡◌, refl, ap, subst, subst₂, subst⁻¹, ◌∙◌}
 use mathlib.Core.List.{List}
 use Prim.Native.Nat.{ℕ, ◌+◌, ◌<◌, ◌≤◌}
@@ -20,7 +20,7 @@ use Rattle.step.specs.Picture.{PicturesAre}
 use Rattle.step.specs.Contract.{Grown, Left}
 use Rattle.step.proofs.Pictures.{pictures_kept, pictures_beside}
 
-__ GROWN
+-- GROWN
 pub entries_kept : {R R' : Rooms} {c d r g n a : ℕ} (f : Grown R R' c d r g n a) (m : ℕ) → m ≤ n → Entries R.work m c → Entries R'.work m d
 entries_kept {R = R} {c = c} {d = d} f m h e i k = subst⁻¹ (λ e. TypeIn d e.typ) (f.work i (omega arith)) (type_more c d (entry_at R.work i).typ f.more (e i k))
 
@@ -78,7 +78,7 @@ grown_trans f k rs gh nm ba =
       work_long = k.work_long ∙ f.work_long;
     }
 
-__ TREES that stand in records and goals which are kept, and whose propositions are
+-- TREES that stand in records and goals which are kept, and whose propositions are
 abbrev pub Between : ℕ → ℕ → List ℕ → List ℕ → Type 0
 Between low high old new = (i : ℕ) → low ≤ i → i < high → record_at new i ≡ record_at old i
 
@@ -89,7 +89,7 @@ module _ (l : List ℕ) (R R' : Rooms) {c d : ℕ} (ok : Arena R.props c) (same 
   stands_on : {T : Sort} {A : Ty} → Stands l R.props c T A → Stands l R'.props d T A
   stands_on {T} s = record { among = type_more c d T up s.among; means = type_same R'.props ok same (props l) T s.among ∙ s.means }
 
-  __ moved by so many records
+  -- moved by so many records
   pub node_on : {n n' p : ℕ} {nd : Node} → record_at R'.tree n' ≡ record_at R.tree n → NodeIs l R c n nd p → NodeIs l R' d n' nd p
   node_on e h = record { typ = h.typ; stands = stands_on h.stands; is = e ∙ h.is }
 
@@ -115,7 +115,7 @@ pub trees_kept : (l : List ℕ) (R R' : Rooms) {c d : ℕ} → Arena R.props c �
 trees_kept l R R' ok same up n m ts b g h =
     trees_on l R R' ok same up 0 n n m ts (omega arith) (λ i lo hi. ap (record_at R'.tree) (omega arith) ∙ b i lo hi) g h
 
-__ SIDE BY SIDE
+-- SIDE BY SIDE
 pub trees_beside : (l : List ℕ) (R : Rooms) (c n m : ℕ) (ts us : Trees) → TreesAre l R c n m ts → TreesAre l R c (n + records ts) (m + holes ts) us → TreesAre l R c n m (ts ⊕ us)
 unfolding TreesAre records holes ◌⊕◌
 trees_beside l R c n m end us h k = subst₂ (λ (i j : ℕ). TreesAre l R c i j us) (omega arith) (omega arith) k
@@ -126,12 +126,12 @@ trees_beside l R c n m (node nd ps ts) us h k = (
   trees_beside l R c (n + 1 + records ps) (m + holes ps) ts us h.2 (subst₂ (λ (i j : ℕ). TreesAre l R c i j us) (omega arith) (omega arith) k),
 )
 
-__ LEFT
+-- LEFT
 pub left_none : {l : List ℕ} {R : Rooms} {st : State} → Arena R.props (count_of l st) → Left l R R st st end
 unfolding TreesAre PicturesAre records holes
 left_none ok = record { records = omega arith; goals = omega arith; context = refl; asked = refl; trees = tt; pictures = tt; grown = grown_none ok }
 
-__ what one part leaves, then another
+-- what one part leaves, then another
 pub left_trans : {l : List ℕ} {R R₁ R₂ : Rooms} {st s₁ s₂ : State} {ts us : Trees} → Left l R R₁ st s₁ ts → Left l R₁ R₂ s₁ s₂ us → Left l R R₂ st s₂ (ts ⊕ us)
 left_trans {l} {R} {R₁} {R₂} {st} {s₁} {s₂} {ts} {us} a b =
     let er = a.records in
@@ -154,7 +154,7 @@ left_trans {l} {R} {R₁} {R₂} {st} {s₁} {s₂} {ts} {us} a b =
       grown = grown_trans a.grown b.grown (omega arith) (omega arith) (omega arith) ea;
     }
 
-__ a part that ran with more entries leaves the same with fewer
+-- a part that ran with more entries leaves the same with fewer
 pub left_leave : {l : List ℕ} {R R₁ : Rooms} {st s₁ : State} {ts : Trees} (n : ℕ) → n ≤ st.context → Left l R R₁ st s₁ ts → Left l R R₁ (leaving st n) (leaving s₁ n) ts
 left_leave n h a =
     record {

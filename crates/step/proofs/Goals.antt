@@ -1,4 +1,4 @@
-__ The goals of a run's trees by their numbers: where each stands, its record, its picture in another table, and the run that starts there. Assumes nothing.
+-- The goals of a run's trees by their numbers: where each stands, its record, its picture in another table, and the run that starts there. Assumes nothing.
 use mathlib.Core.Path.{◌≡◌, refl, ap, sym, subst⁻¹, ◌∙◌}
 use mathlib.Core.List.{List}
 use Prim.Native.Nat.{ℕ, ◌+◌, ◌*◌, ◌<◌, ◌≤◌}
@@ -22,7 +22,7 @@ use Rattle.step.specs.Trees.{goal_at, TreesAre}
 use Rattle.step.specs.Picture.{pictured_state, pictured_type, pictured_at, pictured_ctx, PictureIs, StartsAt}
 use Rattle.step.specs.Contract.{Ready}
 
-__ A GOAL'S NUMBER is below the number of gaps
+-- A GOAL'S NUMBER is below the number of gaps
 pub few_goals : {g : Gap} {ts : Trees} (p : At g ts) → length (before p) < holes ts
 unfolding before holes
 few_goals here = omega arith
@@ -30,11 +30,11 @@ few_goals (past_gap p) = omega (arith, few_goals p)
 few_goals (past_node {ps = us} p) = omega (arith, few_goals p, holes_goals us, length-append (goals us) (before p))
 few_goals (within p) = omega (arith, few_goals p)
 
-__ and each number below it is that of a gap
+-- and each number below it is that of a gap
 pub goal_place : (k : ℕ) (ts : Trees) → k < holes ts → (g : Gap) × (p : At g ts) × (length (before p) ≡ k)
 goal_place k ts h = place_at_goal k ts (omega (arith, holes_goals ts))
 
-__ of one only
+-- of one only
 pub goal_unique : {g g' : Gap} {ts : Trees} (p : At g ts) (p' : At g' ts) → length (before p) ≡ length (before p') → g ≡ g'
 unfolding before
 goal_unique here here e = refl
@@ -46,7 +46,7 @@ goal_unique (past_node {ps = us} p) (within q) e = absurd (omega (arith, few_goa
 goal_unique (within {ps = us} p) (past_node q) e = absurd (omega (arith, few_goals p, holes_goals us, length-append (goals us) (before q)))
 goal_unique (within p) (within q) e = goal_unique p q e
 
-__ ITS RECORD names its term
+-- ITS RECORD names its term
 abbrev named_at : Rooms → ℕ → ℕ
 named_at R i = (goal_at R.goals i).term.0
 
@@ -59,7 +59,7 @@ module _ (l : List ℕ) (R : Rooms) (c : ℕ) where
       ap (named_at R) (omega (arith, holes_goals us, length-append (goals us) (before p))) ∙ goal_term (n + 1 + records us) (m + holes us) p h.2
   goal_term n m (within p) h = goal_term (n + 1) m p h.1
 
-__ ITS PICTURE is one in every table with the same counts
+-- ITS PICTURE is one in every table with the same counts
 pub picture_moved : {l l' ps w : List ℕ} {c : ℕ} {g : Gap} → PictureIs l ps w c g → props l' ≡ props l → terms l' ≡ terms l → PictureIs l' ps w c g
 picture_moved {l} {l'} {ps} {w} {c} {g} p e k =
     let m = (pictured_state w).made in
@@ -78,8 +78,8 @@ picture_moved {l} {l'} {ps} {w} {c} {g} p e k =
       few_entries = omega (arith, k, p.few_entries);
     }
 
-__ THE RUN OF A FILLING, whose root is term q of the edited table e: the script, of n nodes, reached the hole with so many serials and entries, and all
-__ of the table's terms are nodes of the two, but for the Sorry
+-- THE RUN OF A FILLING, whose root is term q of the edited table e: the script, of n nodes, reached the hole with so many serials and entries, and all
+-- of the table's terms are nodes of the two, but for the Sorry
 pub ready_hole : {e : List ℕ} (R : Rooms) (q n : ℕ) {g : Gap} {T : Sort} {st : State} → Table e → Loaded e R.props (count_of e st) → StartsAt e R.props R.work g T st
     → 16 * most_nodes ≤ length R.tree → 8 * most_goals ≤ length R.goals → run_room ≤ length R.work → st.records ≡ 0 → st.goals ≡ 0 → q < terms e
     → nodes (term_at e q) + n ≡ terms e + 1 → Reached n 0 start g → Ready e R q st

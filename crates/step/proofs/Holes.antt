@@ -1,4 +1,4 @@
-__ The picture at a Sorry: what `picture` writes is the picture of that hole, and nothing else of a run changes. Assumes nothing.
+-- The picture at a Sorry: what `picture` writes is the picture of that hole, and nothing else of a run changes. Assumes nothing.
 use mathlib.Core.Path.{◌≡◌, refl, ap, sym, subst, subst₂, ◌∙◌}
 use mathlib.Core.Bool.{Bool, true, false}
 use mathlib.Core.List.{List}
@@ -20,7 +20,7 @@ use Rattle.step.specs.Contract.{Ready}
 use Rattle.step.proofs.Doing.{nodes_some}
 use Rattle.step.proofs.Pictures.{ctx_back}
 
-__ the picture taken where term k is to be run is that hole's
+-- the picture taken where term k is to be run is that hole's
 pub pictured_hole : {l : List ℕ} {R : Rooms} {k : ℕ} {st : State} → Ready l R k st → (T : Sort) → TypeIn (count_of l st) T → (w : List ℕ) → Taken R.work T st w
     → PictureIs l R.props w (count_of l st) (record { term = k; ctx = ctx_of l R.props R.work st.context; wanted = reads l R.props T; state = st_of st })
 pictured_hole {l} {R} {k} {st} rd T among w t =
@@ -43,7 +43,7 @@ pictured_hole {l} {R} {k} {st} rd T among w t =
     at : (i : ℕ) → i < st.context → TypeIn (count_of l (pictured_state w)) (pictured_at w i).typ
     at i h = subst₂ (λ (s : State) (x : Entry). TypeIn (count_of l s) x.typ) (sym t.state) (sym (t.entries i h)) (rd.base.entries i h)
 
-__ WHETHER IT WAS TAKEN or not
+-- WHETHER IT WAS TAKEN or not
 module _ {old : List ℕ} {T : Sort} {st : State} {new : List ℕ} (p : Pictured old T st new) where
   either : (P : Type 0) → (Taken old T st new → P) → (new ≡ old → P) → P
   either P f g = at (eqb st.asked st.goals) refl
@@ -52,14 +52,14 @@ module _ {old : List ℕ} {T : Sort} {st : State} {new : List ℕ} (p : Pictured
       at true e = f (p.taken (eqb-true st.asked st.goals e))
       at false e = g (p.kept (eqb-false st.asked st.goals e))
 
-  __ an earlier goal's picture is kept
+  -- an earlier goal's picture is kept
   pub pictured_earlier : st.asked < st.goals → SamePicture old new
   pictured_earlier h i k = ap (λ (w : List ℕ). get_or w i 0) (p.kept (λ e. omega arith))
 
   pub pictured_size : length new ≡ length old
   pictured_size = either (length new ≡ length old) (λ t. t.size) (ap length)
 
-  __ the context's entries are
+  -- the context's entries are
   pub pictured_entries : (i : ℕ) → i < most_entries → entry_at new i ≡ entry_at old i
   pictured_entries i h =
       either (entry_at new i ≡ entry_at old i) (λ t. entries_kept old new most_entries (λ j k. t.below j k) i h) (ap (λ (w : List ℕ). entry_at w i))

@@ -1,4 +1,4 @@
-__ Laws of the counts, of the tree's records and of the goals; and the loop of `shift`. Assumes nothing.
+-- Laws of the counts, of the tree's records and of the goals; and the loop of `shift`. Assumes nothing.
 use mathlib.Core.Path.{◌≡◌, refl, ap, sym, ◌∙◌}
 use mathlib.Core.List.{List, [], ◌∷◌}
 use mathlib.Core.Logic.{◌⊎◌, inl, inr}
@@ -22,22 +22,22 @@ use Rattle.step.specs.Rooms.{numbered}
 use Rattle.step.specs.Shift.{Shifted}
 use Rattle.step.specs.Trees.{node_rec, as_node, node_at, goal_at, goal_rec, PutGoal}
 
-__ A TERM'S RECORD, behind the table's propositions
+-- A TERM'S RECORD, behind the table's propositions
 pub term_is : (l : List ℕ) (p k : ℕ) (r : TermRecord) → p ≡ props l → r ≡ as_term (record_at l (p + k + 1)) → r ≡ term_record l k
 term_is l p k r e h = h ∙ ap (λ (p : ℕ). as_term (record_at l (p + k + 1))) e
 
-__ ONE SERIAL MORE
+-- ONE SERIAL MORE
 pub numbered_is : (st : State) (n : ℕ) → n ≡ st.serials + 1 → record { records = st.records; goals = st.goals; serials = n; made = st.made; context = st.context; asked = st.asked } ≡ numbered st
 numbered_is st n h i = record { records = st.records; goals = st.goals; serials = h i; made = st.made; context = st.context; asked = st.asked }
 
-__ RECORDS of the tree and of the goals
+-- RECORDS of the tree and of the goals
 pub node_prop : (rule k i j n : ℕ) (T : Sort) (p : Number) → T ≡ Proposition p → record { kind = rule; count = 0; a = k; b = p.0; c = i; parameters = j ∷ n ∷ 0 ∷ 0 ∷ [] } ≡ node_rec rule k T i j n
 node_prop rule k i j n T p e = ap (λ (T : Sort). node_rec rule k T i j n) (sym e)
 
 pub node_data : (rule k i j n : ℕ) (T : Sort) (d : Name) → T ≡ Datatype d → record { kind = rule; count = 1; a = k; b = d.0; c = i; parameters = j ∷ n ∷ 0 ∷ 0 ∷ [] } ≡ node_rec rule k T i j n
 node_data rule k i j n T d e = ap (λ (T : Sort). node_rec rule k T i j n) (sym e)
 
-__ `node_at` reads what the bytes say, and reads back what `node` said
+-- `node_at` reads what the bytes say, and reads back what `node` said
 pub node_is : (w : List ℕ) (n : ℕ) (r : Record) (T : Sort) → r ≡ record_at w n → T ≡ sort_of r.count r.b
     → record {
       rule = r.kind;
@@ -70,7 +70,7 @@ goal_prop k n T p e = ap (λ (T : Sort). goal_rec k T n) (sym e)
 pub goal_data : (k n : ℕ) (T : Sort) (d : Name) → T ≡ Datatype d → record { term = record { 0 = k }; proposition = record { 0 = d.0 }; context = n; zero = 0 } ≡ goal_rec k T n
 goal_data k n T d e = ap (λ (T : Sort). goal_rec k T n) (sym e)
 
-__ a goal is what its four words say
+-- a goal is what its four words say
 goal_words : (w : List ℕ) (n : ℕ) (g : Goal) → word_at w (8 * n) ≡ g.term.0 → word_at w (8 * n + 2) ≡ g.proposition.0 → word_at w (8 * n + 4) ≡ g.context → word_at w (8 * n + 6) ≡ g.zero → goal_at w n ≡ g
 unfolding goal_at
 goal_words w n g t p c z i = record { term = record { 0 = t i }; proposition = record { 0 = p i }; context = c i; zero = z i }
@@ -79,7 +79,7 @@ pub goal_is : (w : List ℕ) (n t p c z : ℕ) → t ≡ word_at w (8 * n) → p
     → record { term = record { 0 = t }; proposition = record { 0 = p }; context = c; zero = z } ≡ goal_at w n
 goal_is w n t p c z et ep ec ez = sym (goal_words w n _ (sym et) (sym ep) (sym ec) (sym ez))
 
-__ the room after the four stores of `put_goal`, store by store
+-- the room after the four stores of `put_goal`, store by store
 abbrev stored₁ : List ℕ → ℕ → Goal → List ℕ
 stored₁ w n g = put_word w (8 * n) g.term.0
 
@@ -93,7 +93,7 @@ abbrev put_goal : List ℕ → ℕ → Goal → List ℕ
 put_goal w n g = put_word (stored₃ w n g) (8 * n + 6) g.zero
 
 module _ (w : List ℕ) (n : ℕ) (g : Goal) where
-  __ a word outside its eight bytes is as it was
+  -- a word outside its eight bytes is as it was
   word_outside : (j : ℕ) → (8 * n ≤ j + 1 → j < 8 * n + 8 → ⊥) → word_at (put_goal w n g) j ≡ word_at w j
   word_outside j h =
       let no : (o : ℕ) → o ≤ 6 → (j ≡ 8 * n + o → ⊥) × (j ≡ 8 * n + o + 1 → ⊥) × (j + 1 ≡ 8 * n + o → ⊥) =
@@ -136,11 +136,11 @@ module _ (w : List ℕ) (n : ℕ) (g : Goal) where
   put_is : 8 * n + 8 ≤ length w → PutGoal w n g (put_goal w n g)
   put_is h = record { here = goal_here h; size = simp length-set; others = other_goal }
 
-__ the same with a name for the room after each store, as `put_goal` has them
+-- the same with a name for the room after each store, as `put_goal` has them
 pub goal_put : (w w₁ w₂ w₃ w₄ : List ℕ) (n : ℕ) (g : Goal) → 8 * n + 8 ≤ length w → w₁ ≡ put_word w (8 * n) g.term.0 → w₂ ≡ put_word w₁ (8 * n + 2) g.proposition.0 → w₃ ≡ put_word w₂ (8 * n + 4) g.context → w₄ ≡ put_word w₃ (8 * n + 6) g.zero → PutGoal w n g w₄
 goal_put w w₁ w₂ w₃ w₄ n g h q₁ q₂ q₃ q₄ = let q : w₄ ≡ put_goal w n g = cc in rw q (put_is w n g h)
 
-__ THE LOOP OF `shift`: the records from i up have moved, the last first
+-- THE LOOP OF `shift`: the records from i up have moved, the last first
 pub record Moving (old : List ℕ) (low high i : ℕ) (new : List ℕ) : Type 0 where
   pub size : length new ≡ length old
   pub least : low ≤ i

@@ -1,4 +1,4 @@
-__ What the proofs of several functions use.
+-- What the proofs of several functions use.
 pub mod Programs
 pub mod Refusing
 pub mod Taking

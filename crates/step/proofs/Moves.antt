@@ -1,5 +1,5 @@
-__ What a rule does between its premises: propositions are made, a serial is taken, an entry is inserted. What each leaves, and how the rule's program
-__ goes on. Assumes nothing.
+-- What a rule does between its premises: propositions are made, a serial is taken, an entry is inserted. What each leaves, and how the rule's program
+-- goes on. Assumes nothing.
 use mathlib.Core.Path.{◌≡◌, refl, ap, sym, subst, subst⁻¹, ◌∙◌}
 use mathlib.Core.Bool.{Bool, true, false, cond}
 use mathlib.Core.List.{List, ◌∷◌}
@@ -37,7 +37,7 @@ use Rattle.step.specs.Steps.{Making}
 use Rattle.step.proofs.Pictures.{entered_picture}
 use Rattle.step.proofs.Frames.{entries_kept, ctx_kept, loaded_kept, grown_none}
 
-__ WHAT HOLDS OF THE ROOMS still does, after whatever left them so
+-- WHAT HOLDS OF THE ROOMS still does, after whatever left them so
 pub left_base : {l : List ℕ} {R R' : Rooms} {st st' : State} {ts : Trees} → Left l R R' st st' ts → st'.made ≤ limit → Base l R st → Base l R' st'
 left_base {l} {R' = R'} {st = st} {st' = st'} a m b =
     let f = a.grown in
@@ -51,7 +51,7 @@ left_base {l} {R' = R'} {st = st} {st' = st'} a m b =
       work_room = omega (arith, b.work_room, f.work_long);
     }
 
-__ PROPOSITIONS MADE
+-- PROPOSITIONS MADE
 pub making_none : {l ps : List ℕ} {st : State} → Arena ps (count_of l st) → st.made ≤ limit → Making l ps ps st st
 making_none {st = st} ok m =
     record {
@@ -79,7 +79,7 @@ module _ {l ps ps' : List ℕ} {st st' : State} (mk : Making l ps ps' st st') wh
   pub making_context : st'.context ≡ st.context
   making_context = ap (λ (s : State). s.context) mk.state
 
-  __ what stood for a type still does
+  -- what stood for a type still does
   pub making_stands : {T : Sort} {A : Ty} → Arena ps (count_of l st) → Stands l ps (count_of l st) T A → Stands l ps' (count_of l st') T A
   making_stands {T} ok s =
       record {
@@ -119,11 +119,11 @@ module _ (R : Rooms) {l ps' : List ℕ} {st st' : State} (mk : Making l R.props 
   pub making_base : Base l R st → Base l (rooms R.tree R.goals ps' R.work) st'
   making_base b = left_base making_left mk.within b
 
-  __ the context stands for the same
+  -- the context stands for the same
   pub making_ctx : Base l R st → ctx_of l ps' R.work st.context ≡ ctx_of l R.props R.work st.context
   making_ctx b = ctx_kept l b.loaded.arena making_left.grown st.context (omega arith) b.entries
 
-__ THE RULES' TEST
+-- THE RULES' TEST
 pub make_goes : {n : Arity} (c p : ℕ) (q : Prog n) (ks : Kids n) (st : St) → room c st ≡ true → obey (make c p q) ks st ≡ obey q ks (spend c st)
 unfolding obey
 make_goes c p q ks st e = ap (λ (b : Bool). cond b (obey q ks (spend c st)) (refused 30 p)) e
@@ -132,18 +132,18 @@ pub make_stops : {n : Arity} (c p : ℕ) (q : Prog n) (ks : Kids n) (st : St) �
 unfolding obey
 make_stops c p q ks st e = ap (λ (b : Bool). cond b (obey q ks (spend c st)) (refused 30 p)) e
 
-__ A PROPOSITION MADE: number m stands for P, which took k propositions, and the rules allow them
+-- A PROPOSITION MADE: number m stands for P, which took k propositions, and the rules allow them
 pub record MadeFor (l old new : List ℕ) (st st' : State) (k : ℕ) (P : Prop) (m : Proposition) : Type 0 where
   pub making : Making l old new st st'
   pub stands : Stands l new (count_of l st') (sort.Proposition m) (prop P)
   pub allowed : room k (st_of st) ≡ true
   pub spent : st_of st' ≡ spend k (st_of st)
 
-__ so the rule's program goes on
+-- so the rule's program goes on
 pub made_goes : {l old new : List ℕ} {st st' : State} {k : ℕ} {P : Prop} {m : Proposition} → MadeFor l old new st st' k P m → {n : Arity} (p : ℕ) (q : Prog n) (ks : Kids n) → obey (make k p q) ks (st_of st) ≡ obey q ks (st_of st')
 made_goes {st = st} {k = k} d p q ks = make_goes k p q ks (st_of st) d.allowed ∙ ap (obey q ks) (sym d.spent)
 
-__ WHAT THOSE FUNCTIONS ASK, for the count and the rest that the code has computed
+-- WHAT THOSE FUNCTIONS ASK, for the count and the rest that the code has computed
 pub loaded_arena : (l ps : List ℕ) (st : State) (c : ℕ) → c ≡ count_of l st → Loaded l ps (count_of l st) → Arena ps c
 loaded_arena l ps st c e h = subst⁻¹ (Arena ps) e h.arena
 
@@ -153,13 +153,13 @@ loaded_type l st c T e h = subst⁻¹ (λ (c : ℕ). TypeIn c T) e h
 pub loaded_left : (l : List ℕ) (st : State) (c left : ℕ) → c ≡ count_of l st → left + st.made ≡ limit → Counted l → c + left ≤ most_records
 loaded_left l st c left e f h = omega (arith, h.propositions)
 
-__ what `grown` says of the counts once there are e propositions where there were c
+-- what `grown` says of the counts once there are e propositions where there were c
 abbrev pub GrownTo : (st : State) (c e : ℕ) → State → Type 0
 GrownTo st c e s = (s.made + c ≡ st.made + e) × (s.records ≡ st.records) × (s.goals ≡ st.goals) × (s.serials ≡ st.serials) × (s.context ≡ st.context) × (s.asked ≡ st.asked)
 
-__ AN ANSWER of `prop`'s functions that make
+-- AN ANSWER of `prop`'s functions that make
 module _ (l old new : List ℕ) (c left : ℕ) (st : State) (k : ℕ → ℕ) (P : ℕ → Prop) (o : Made) (ec : c ≡ count_of l st) (el : left + st.made ≡ limit) (is : MadeIs old c left k P new o) where
-  __ it was made, and `grown` gave the counts
+  -- it was made, and `grown` gave the counts
   pub made_for : (s : State) (m : Proposition) (e : ℕ) → o ≡ At m e → GrownTo st c e s → MadeFor l old new st s (k (props l)) (P (props l)) m
   made_for s m e q g =
       let few : k (props l) ≤ left = (subst (MadeIs old c left k P new) q is).0 (props l) in
@@ -183,7 +183,7 @@ module _ (l old new : List ℕ) (c left : ℕ) (st : State) (k : ℕ → ℕ) (P
         spent = λ i. record { serials = g.3 i; made = more i };
       }
 
-  __ what `grown` asks
+  -- what `grown` asks
   pub made_more : (m : Proposition) (e : ℕ) → o ≡ At m e → c ≤ e
   made_more m e q = let count : e ≡ c + k (props l) = (subst (MadeIs old c left k P new) q is).1.count (props l) in omega arith
 
@@ -194,14 +194,14 @@ module _ (l old new : List ℕ) (c left : ℕ) (st : State) (k : ℕ → ℕ) (P
       let count : e ≡ c + k (props l) = (subst (MadeIs old c left k P new) q is).1.count (props l) in
       omega (arith, h.propositions)
 
-  __ it would be too many
+  -- it would be too many
   pub full_room : o ≡ Full → room (k (props l)) (st_of st) ≡ false
   full_room q = let over : left < k (props l) = (subst (MadeIs old c left k P new) q is).1 (props l) in lt-leb (st.made + k (props l)) limit (omega arith)
 
   pub full_stops : o ≡ Full → {n : Arity} (p : ℕ) (q : Prog n) (ks : Kids n) → obey (make (k (props l)) p q) ks (st_of st) ≡ refused 30 p
   full_stops f p q ks = make_stops (k (props l)) p q ks (st_of st) (full_room f)
 
-__ the same of `put_in`, in the form that `search` finds: the body n with the identifier i put in
+-- the same of `put_in`, in the form that `search` finds: the body n with the identifier i put in
 module _ (l ps ps' : List ℕ) (c left n i : ℕ) (st : State) (o : Made) (ec : c ≡ count_of l st) (el : left + st.made ≡ limit) (is : PutIs ps c left n i ps' o) where
   abbrev count : ℕ → ℕ
   count t = size (room_at t ps n)
@@ -221,12 +221,12 @@ module _ (l ps ps' : List ℕ) (c left n i : ℕ) (st : State) (o : Made) (ec : 
   pub put_stops : o ≡ Full → {a : Arity} (p : ℕ) (q : Prog a) (ks : Kids a) → obey (make (size (room_at (props l) ps n)) p q) ks (st_of st) ≡ refused 30 p
   put_stops f p q ks = full_stops l ps ps' c left st count whole o ec el is f p q ks
 
-__ A SERIAL TAKEN
+-- A SERIAL TAKEN
 pub numbered_left : {l : List ℕ} {R : Rooms} {st : State} → Arena R.props (count_of l st) → Left l R R st (numbered st) end
 unfolding TreesAre PicturesAre records holes
 numbered_left ok = record { records = omega arith; goals = omega arith; context = refl; asked = refl; trees = tt; pictures = tt; grown = grown_none ok }
 
-__ AN ENTRY INSERTED. The state that still has as many entries as before is left the same; the new entry is above them
+-- AN ENTRY INSERTED. The state that still has as many entries as before is left the same; the new entry is above them
 module _ (R : Rooms) (st : State) {e : Entry} {work' : List ℕ} (ins : Inserted R.work st.context e work') where
   pub entered_left : {l : List ℕ} → Arena R.props (count_of l st) → st.context < most_entries → Left l R (rooms R.tree R.goals R.props work') st st end
   unfolding TreesAre PicturesAre records holes

@@ -1,4 +1,4 @@
-__ The object of a quantifier, and a let opened. Assumes nothing.
+-- The object of a quantifier, and a let opened. Assumes nothing.
 use mathlib.Core.Path.{◌≡◌, refl, ap, sym, subst, subst⁻¹, ◌∙◌}
 use mathlib.Core.List.{List, [], ◌∷◌}
 use mathlib.Core.Option.{Option, none, some}
@@ -43,10 +43,10 @@ use Rattle.step.specs.Modes.{number_of}
 use Rattle.step.specs.Steps.{Stops, ObjectAs, LetEntered}
 use Rattle.step.proofs.Refusing.{mode_refusal}
 use Rattle.step.proofs.Pictures.{entered_picture}
-use Rattle.step.proofs.Terms.{is-ident}
+use Rattle.step.proofs.Terms.{is_ident}
 use Rattle.step.proofs.Moves.{GrownTo, MadeFor, made_for, made_more, made_few, make_goes, make_stops, full_room, entered_entries}
 
-__ A TERM OF ANOTHER KIND is no Ident
+-- A TERM OF ANOTHER KIND is no Ident
 other_name : (t : ℕ) (A : Option Ty) (sub : ℕ → Term) (n : ℕ) (r : TermRecord) → (n ≡ 0 → ⊥) → ident_name (term_of t A sub (kind_of n) r) ≡ none
 unfolding ident_name term_of ascribed kind_of kinds
 other_name t A sub zero r h = absurd (h refl)
@@ -66,7 +66,7 @@ other_name t (some B) sub (suc (suc (suc (suc (suc (suc (suc (suc (suc (suc (suc
 other_name t A sub (suc (suc (suc (suc (suc (suc (suc (suc (suc (suc (suc (suc (suc zero))))))))))))) r h = refl
 other_name t A sub (suc (suc (suc (suc (suc (suc (suc (suc (suc (suc (suc (suc (suc (suc n)))))))))))))) r h = refl
 
-__ THE OBJECT THAT TERM t NAMES
+-- THE OBJECT THAT TERM t NAMES
 module _ {l : List ℕ} (table : Table l) {t : ℕ} (h : t < terms l) (r : TermRecord) (er : r ≡ term_record l t) (work : List ℕ) (w : Want) (st : State) (ps : List ℕ) where
   abbrev Γ : Ctx
   Γ = ctx_of l ps work st.context
@@ -87,25 +87,25 @@ module _ {l : List ℕ} (table : Table l) {t : ℕ} (h : t < terms l) (r : TermR
       (λ a k ks i. ap (λ (x : Option ℕ). named x (refused n₁ t) (λ y. obey (look_up n₂ t Γ y (λ e. k e.serial)) ks (st_of st))) (i ∙ bare))
 
   module _ (kind : r.kind ≡ 0) (f : Found) (is : Latest work st.context r.name1.0 f) where
-    object-goes : (o : Option Hypothesis) → find r.name1.0 Γ ≡ o → {a : Arity} (k : ℕ → Prog (more a)) (ks : Kids (more a)) → ks.0.ident ≡ ident_name (term_at l t)
+    object_goes : (o : Option Hypothesis) → find r.name1.0 Γ ≡ o → {a : Arity} (k : ℕ → Prog (more a)) (ks : Kids (more a)) → ks.0.ident ≡ ident_name (term_at l t)
         → obey (objected n₁ n₂ t Γ k) ks (st_of st) ≡ obey (on_found o (λ e. k e.serial) (refuse n₂ t)) ks (st_of st)
     unfolding objected obey named look_up ident_name
-    object-goes o q k ks e =
-        let name : ident_name (term_at l t) ≡ some r.name1.0 = ap ident_name (is-ident table h (ap (λ (r : TermRecord). r.kind) (sym er) ∙ kind)) ∙ ap (λ (r : TermRecord). some r.name1.0) (sym er) in
+    object_goes o q k ks e =
+        let name : ident_name (term_at l t) ≡ some r.name1.0 = ap ident_name (is_ident table h (ap (λ (r : TermRecord). r.kind) (sym er) ∙ kind)) ∙ ap (λ (r : TermRecord). some r.name1.0) (sym er) in
         ap (λ (x : Option ℕ). named x (refused n₁ t) (λ y. obey (look_up n₂ t Γ y (λ e. k e.serial)) ks (st_of st))) (e ∙ name)
         ∙ ap (λ (o : Option Hypothesis). obey (on_found o (λ e. k e.serial) (refuse n₂ t)) ks (st_of st)) q
 
-    pub object-unknown : f ≡ Nothing → (n : ℕ) → n ≡ number_of w 10 20 → (e : Refusal) → e ≡ record { number = n; place = t } → ObjectAs l ps work w t st (object.Refused e)
+    pub object_unknown : f ≡ Nothing → (n : ℕ) → n ≡ number_of w 10 20 → (e : Refusal) → e ≡ record { number = n; place = t } → ObjectAs l ps work w t st (object.Refused e)
     unfolding obey on_found
-    object-unknown q n en e ee =
+    object_unknown q n en e ee =
         subst⁻¹ (λ (e : Refusal). ObjectAs l ps work w t st (object.Refused e)) (mode_refusal e n n₂ t en ee)
-        (λ a k ks i. object-goes none (nothing_finds (reads l ps) is q) k ks i)
+        (λ a k ks i. object_goes none (nothing_finds (reads l ps) is q) k ks i)
 
-    pub object-known : (e : Entry) → f ≡ Held e → ObjectAs l ps work w t st (object.Known e.serial)
+    pub object_known : (e : Entry) → f ≡ Held e → ObjectAs l ps work w t st (object.Known e.serial)
     unfolding on_found
-    object-known e q a k ks i = object-goes (some (stands (reads l ps) e)) (held_finds (reads l ps) is q) k ks i
+    object_known e q a k ks i = object_goes (some (stands (reads l ps) e)) (held_finds (reads l ps) is q) k ks i
 
-__ ROOM for the entries of a let
+-- ROOM for the entries of a let
 module _ (work : List ℕ) (st s : State) (es : s.serials ≡ st.serials) (ec : s.context ≡ st.context) (few : st.context + 2 ≤ most_entries) (long : context_room ≤ length work) (serials : st.serials + 2 ≤ most_serials) where
   pub let_room_1 : (8 * s.context + 8 ≤ length work) × ((s.context < largest) × (s.serials < largest))
   let_room_1 = (omega arith, (omega arith, omega arith))
@@ -116,7 +116,7 @@ module _ (work : List ℕ) (st s : State) (es : s.serials ≡ st.serials) (ec : 
       let es₁ = ap (λ (s : State). s.serials) e₁ in
       (omega arith, (omega arith, omega arith))
 
-__ A LET OPENED, at a head of type H
+-- A LET OPENED, at a head of type H
 module _ (l ps work : List ℕ) (w : Want) (H : Sort) (p head : ℕ) (st : State) (count : ℕ) (o : Quantified) (is : OverAs ex ps count H o) where
   abbrev n : ℕ
   n = number_of w 12 22
@@ -131,22 +131,22 @@ module _ (l ps work : List ℕ) (w : Want) (H : Sort) (p head : ℕ) (st : State
     over : Over ex ps count H D.0 b.0
     over = subst (OverAs ex ps count H) e is
 
-    pub let-body : b.0 < count
-    let-body = over.body
+    pub let_body : b.0 < count
+    let_body = over.body
 
     abbrev B : Prop
     B = room_at (props l) ps b.0
 
     module _ (left : ℕ) (ps' : List ℕ) (z : Made) (ec : count ≡ count_of l st) (el : left + st.made ≡ limit) (makes : PutIs ps count left b.0 st.serials ps' z) where
-      pub let-full : z ≡ Full → (r : Refusal) → r ≡ record { number = 30; place = p } → (a : Arity) (k : ℕ → ℕ → ℕ → Prop → Prog a) → Stops (let_opening n p head (reads l ps H) k) st r
+      pub let_full : z ≡ Full → (r : Refusal) → r ≡ record { number = 30; place = p } → (a : Arity) (k : ℕ → ℕ → ℕ → Prop → Prog a) → Stops (let_opening n p head (reads l ps H) k) st r
       unfolding let_opening obey
-      let-full q r er a k =
+      let_full q r er a k =
           subst⁻¹ (λ (r : Refusal). Stops (let_opening n p head (reads l ps H) k) st r) er λ ks.
           ap (λ (q : Prog a). obey q ks (st_of st)) (over.goes (props l) a _ _)
           ∙ make_stops {n = a} (size B) p (k st.serials (suc st.serials) D.0 (put st.serials B)) ks (next (next (st_of st))) (full_room l ps ps' count left st _ _ z ec el makes q)
 
-      pub let-grown : Counted l → (m : Proposition) (end : ℕ) → z ≡ At m end → (count ≤ end) × (st.made + end ≤ largest)
-      let-grown counted m end q = (made_more l ps ps' count left st _ _ z ec el makes m end q, made_few l ps ps' count left st _ _ z ec el makes m end q counted)
+      pub let_grown : Counted l → (m : Proposition) (end : ℕ) → z ≡ At m end → (count ≤ end) × (st.made + end ≤ largest)
+      let_grown counted m end q = (made_more l ps ps' count left st _ _ z ec el makes m end q, made_few l ps ps' count left st _ _ z ec el makes m end q counted)
 
       module _ (m : Proposition) (end : ℕ) (q : z ≡ At m end) (s : State) (grown : GrownTo st count end s) where
         made : MadeFor l ps ps' st s (size B) (put st.serials B) m
@@ -183,16 +183,16 @@ module _ (l ps work : List ℕ) (w : Want) (H : Sort) (p head : ℕ) (st : State
               ∙ ap (λ (s : State). deeper (numbered s)) (e₁ ∙ ap (λ (s : State). deeper (numbered s)) made.making.state)
               ∙ (λ j. record { records = st.records; goals = st.goals; serials = twice st.serials j; made = st.made + spent; context = twice st.context j; asked = st.asked })
 
-          stands-for : reads l ps' (sort.Proposition m) ≡ prop (put st.serials B)
-          stands-for = made.stands.means
+          stands_for : reads l ps' (sort.Proposition m) ≡ prop (put st.serials B)
+          stands_for = made.stands.means
 
-          entered-last : LetEntered l ps work ps' w₂ x.0 y.0 w H p head st last
+          entered_last : LetEntered l ps work ps' w₂ x.0 y.0 w H p head st last
           unfolding let_opening obey
-          entered-last =
+          entered_last =
               let eq : s.made ≡ st.made + spent = ap (λ (s : State). s.made) made.making.state in
               let eq' : s.made ≡ st.made + size B = ap (λ (s : St). s.made) made.spent in
               let same_size : st.made + size B ≡ st.made + spent = omega arith in
-              let two-more : suc (suc st.serials) ≡ st.serials + 2 = omega arith in
+              let two_more : suc (suc st.serials) ≡ st.serials + 2 = omega arith in
               let one_more : suc st.serials ≡ st.serials + 1 = omega arith in
               record {
                 datatype = D.0;
@@ -215,12 +215,12 @@ module _ (l ps work : List ℕ) (w : Want) (H : Sort) (p head : ℕ) (st : State
                     ap (ctx_of l ps' w₂) (sym (twice st.context))
                     ∙ ctx_inserted (reads l ps') put₂
                     ∙ ap (λ (Γ : Ctx). stands (reads l ps') second ∷ Γ) (ctx_inserted (reads l ps') put₁)
-                    ∙ (λ j. entry y.0 (st.serials + 1) (stands-for j) ∷ entry x.0 st.serials (datatype D.0) ∷ ctx_of l ps' work st.context);
+                    ∙ (λ j. entry y.0 (st.serials + 1) (stands_for j) ∷ entry x.0 st.serials (datatype D.0) ∷ ctx_of l ps' work st.context);
                 goes =
                     λ a k ks. ap (λ (q : Prog a). obey q ks (st_of st)) (over.goes (props l) a _ _)
                     ∙ make_goes {n = a} (size B) p (k st.serials (suc st.serials) D.0 (put st.serials B)) ks (next (next (st_of st))) made.allowed
-                    ∙ (λ j. obey (k st.serials (one_more j) D.0 (put st.serials B)) ks (record { serials = two-more j; made = same_size j }));
+                    ∙ (λ j. obey (k st.serials (one_more j) D.0 (put st.serials B)) ks (record { serials = two_more j; made = same_size j }));
               }
 
-          pub let-entered : LetEntered l ps work ps' w₂ x.0 y.0 w H p head st s₂
-          let-entered = subst⁻¹ (LetEntered l ps work ps' w₂ x.0 y.0 w H p head st) is_last entered-last
+          pub let_entered : LetEntered l ps work ps' w₂ x.0 y.0 w H p head st s₂
+          let_entered = subst⁻¹ (LetEntered l ps work ps' w₂ x.0 y.0 w H p head st) is_last entered_last

@@ -1,4 +1,4 @@
-__ What keeps the picture of a goal, what taking it gives, and what starts from it. Assumes nothing.
+-- What keeps the picture of a goal, what taking it gives, and what starts from it. Assumes nothing.
 use mathlib.Core.Path.{◌≡◌, refl, ap, ap₂, sym, subst, subst₂, subst⁻¹, ◌∙◌}
 use mathlib.Core.List.{List, ◌∷◌}
 use Prim.Native.Nat.{ℕ, zero, suc, ◌+◌, ◌*◌, ◌<◌, ◌≤◌}
@@ -22,7 +22,7 @@ use Rattle.step.specs.declared.state.State.{State}
 use Rattle.step.specs.Rooms.{st_of, count_of, reads, Stands, first_pictured}
 use Rattle.step.specs.Picture.{serials_at, made_at, length_at, type_entry, pictured_state, pictured_type, pictured_at, pictured_ctx, SamePicture, PictureIs, PicturesAre, Copied, StartsAt}
 
-__ THE SAME BYTES show the same
+-- THE SAME BYTES show the same
 module _ (old new : List ℕ) (s : SamePicture old new) where
   word_behind : (i : ℕ) → context_room ≤ i → word_at new i ≡ word_at old i
   word_behind i h = ap₂ (λ (a b : ℕ). a + 256 * b) (s i h) (s (i + 1) (omega arith))
@@ -46,11 +46,11 @@ module _ (old new : List ℕ) (s : SamePicture old new) where
   unfolding pictured_at
   at_same i = entry_behind (first_pictured + i) (omega arith)
 
-__ an entry of the context may be entered
+-- an entry of the context may be entered
 pub entered_picture : {old new : List ℕ} {n : ℕ} {e : Entry} → Inserted old n e new → n < most_entries → SamePicture old new
 entered_picture ins h i k = ins.outside i (λ lo hi. absurd (omega arith))
 
-__ two readings of the same entries
+-- two readings of the same entries
 ctx_agree : (f g : Sort → Ty) (old new : List ℕ) (n : ℕ) → ((i : ℕ) → i < n → pictured_at new i ≡ pictured_at old i) → ((i : ℕ) → i < n → f (pictured_at old i).typ ≡ g (pictured_at old i).typ) → pictured_ctx f new n ≡ pictured_ctx g old n
 unfolding pictured_ctx
 ctx_agree f g old new zero e h = refl
@@ -59,15 +59,15 @@ ctx_agree f g old new (suc n) e h =
     ap₂ {C = Ctx} ◌∷◌ (ap (stands f) (e n (omega arith)) ∙ (λ i. record { name = (pictured_at old n).name.0; serial = (pictured_at old n).serial.0; ty = t i }))
     (ctx_agree f g old new n (λ i l. e i (omega arith)) (λ i l. h i (omega arith)))
 
-__ the entries put back are the context
+-- the entries put back are the context
 pub ctx_back : (f : Sort → Ty) (old new : List ℕ) (n : ℕ) → ((i : ℕ) → i < n → entry_at new i ≡ pictured_at old i) → ctx_at f new n ≡ pictured_ctx f old n
 unfolding pictured_ctx ctx_at
 ctx_back f old new zero e = refl
 ctx_back f old new (suc n) e = ap₂ {C = Ctx} ◌∷◌ (ap (stands f) (e n (omega arith))) (ctx_back f old new n (λ i l. e i (omega arith)))
 
-__ A PICTURE IS KEPT with its bytes and the propositions that it knows
+-- A PICTURE IS KEPT with its bytes and the propositions that it knows
 module _ (l ps ps' : List ℕ) {c d : ℕ} (ok : Arena ps c) (same : Same c ps ps') (up : c ≤ d) where
-  __ by more propositions
+  -- by more propositions
   grown_picture : {w : List ℕ} {g : Gap} → PictureIs l ps w c g → PictureIs l ps' w d g
   grown_picture {w} {g} p =
       let n = count_of l (pictured_state w) in
@@ -83,7 +83,7 @@ module _ (l ps ps' : List ℕ) {c d : ℕ} (ok : Arena ps c) (same : Same c ps p
         few_entries = p.few_entries;
       }
 
-__ by bytes
+-- by bytes
 moved_picture : (l ps w w' : List ℕ) {c : ℕ} {g : Gap} → SamePicture w w' → PictureIs l ps w c g → PictureIs l ps w' c g
 moved_picture l ps w w' {c} {g} s p =
     let e = state_same w w' s in
@@ -103,7 +103,7 @@ moved_picture l ps w w' {c} {g} s p =
       few_entries = rw e p.few_entries;
     }
 
-__ the pictures of trees
+-- the pictures of trees
 module _ (l ps ps' w w' : List ℕ) {c d : ℕ} (ok : Arena ps c) (same : Same c ps ps') (up : c ≤ d) (a : ℕ) where
   pub pictures_kept : (m : ℕ) (ts : Trees) → (a < m + holes ts → SamePicture w w') → PicturesAre l ps w a c m ts → PicturesAre l ps' w' a d m ts
   unfolding PicturesAre holes
@@ -114,14 +114,14 @@ module _ (l ps ps' w w' : List ℕ) {c d : ℕ} (ok : Arena ps c) (same : Same c
   )
   pictures_kept m (node nd us ts) s h = (pictures_kept m us (λ k. s (omega arith)) h.0, pictures_kept (m + holes us) ts (λ k. s (omega arith)) h.1)
 
-__ side by side
+-- side by side
 pub pictures_beside : (l ps w : List ℕ) (a c m : ℕ) (ts us : Trees) → PicturesAre l ps w a c m ts → PicturesAre l ps w a c (m + holes ts) us → PicturesAre l ps w a c m (ts ⊕ us)
 unfolding PicturesAre holes ◌⊕◌
 pictures_beside l ps w a c m end us h k = subst (λ (i : ℕ). PicturesAre l ps w a c i us) (omega arith) k
 pictures_beside l ps w a c m (gap g ts) us h k = (h.0, pictures_beside l ps w a c (m + 1) ts us h.1 (subst (λ (i : ℕ). PicturesAre l ps w a c i us) (omega arith) k))
 pictures_beside l ps w a c m (node nd vs ts) us h k = (h.0, pictures_beside l ps w a c (m + holes vs) ts us h.1 (subst (λ (i : ℕ). PicturesAre l ps w a c i us) (omega arith) k))
 
-__ the goal that is asked for, where it stands
+-- the goal that is asked for, where it stands
 pub picture_at : {l ps w : List ℕ} {a c : ℕ} (m : ℕ) {g : Gap} {ts : Trees} (p : At g ts) → m + length (before p) ≡ a → PicturesAre l ps w a c m ts → PictureIs l ps w c g
 unfolding PicturesAre before
 picture_at m (here {ts = ts}) e h = h.0 (omega arith)
@@ -129,7 +129,7 @@ picture_at m (past_gap {h = q} p) e h = picture_at (m + 1) p (omega arith) h.1
 picture_at m (past_node {ps = us} p) e h = picture_at (m + holes us) p (omega (arith, holes_goals us, length-append (goals us) (before p))) h.1
 picture_at m (within p) e h = picture_at m p e h.0
 
-__ A FILLING'S START
+-- A FILLING'S START
 entry_back : {old new : List ℕ} {n : ℕ} → Copied old first_pictured 0 n new → (i : ℕ) → i < n → entry_at new i ≡ pictured_at old i
 unfolding pictured_at
 entry_back {old} {new} c i h = let e : i ≡ 0 + i = omega arith in ap (entry_at new) e ∙ c.entries i h

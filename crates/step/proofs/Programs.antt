@@ -1,4 +1,4 @@
-__ A rule in the middle: some trees stand already, and the rest of its program is still to be obeyed. Assumes nothing.
+-- A rule in the middle: some trees stand already, and the rest of its program is still to be obeyed. Assumes nothing.
 use mathlib.Core.Path.{◌≡◌, refl, ap, sym, ◌∙◌}
 use mathlib.Core.Bool.{Bool, true, false, cond}
 use mathlib.Core.List.{List, [], ◌∷◌}
@@ -24,7 +24,7 @@ pub rest_refused : (w : Want) (ts : Trees) (r : Refusal) → rest w ts (stop r) 
 unfolding rest then
 rest_refused w ts r = refl
 
-__ a premise more
+-- a premise more
 pub rest_ask : {n : Arity} (w : Want) (ts : Trees) (w' : Want) (Γ : Ctx) (k : Ty → Prog n) (ks : Kids (more n)) (st : St) (a : Answer) (st₁ : St) → ks.0.run w' Γ st ≡ ok a st₁
     → rest w ts (obey (ask w' Γ k) ks st) ≡ rest w (ts ⊕ a.tree) (obey (k a.ty) ks.1 st₁)
 unfolding obey then rest with_kid
@@ -39,12 +39,12 @@ pub ask_refused : {n : Arity} (w' : Want) (Γ : Ctx) (k : Ty → Prog n) (ks : K
 unfolding obey then
 ask_refused w' Γ k ks st r e = ap (λ (o : Out Answer). then o (λ a st₁. then (obey (k a.ty) ks.1 st₁) (with_kid a))) e
 
-__ the last step
+-- the last step
 pub rest_conclude : (w : Want) (ts : Trees) (A : Ty) (ns : List Node) (st : St) → rest w ts (obey (conclude A ns) tt st) ≡ ok (record { ty = answered w A; tree = stack ns ts }) st
 unfolding rest obey then finish
 rest_conclude w ts A ns st = ap (λ (us : Trees). ok (record { ty = answered w A; tree = stack ns us }) st) (join_end ts)
 
-__ A CHECK BY COMPARISON: what is synthesized is held against what is expected
+-- A CHECK BY COMPARISON: what is synthesized is held against what is expected
 unfoldable pub compared_with : ℕ → Ty → Answer → St → Out Answer
 compared_with p A a st =
     cond (eq a.ty A) (ok (record { ty = A; tree = a.tree }) st)

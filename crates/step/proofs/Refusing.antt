@@ -1,4 +1,4 @@
-__ A refusal whose number goes by the mode. Assumes nothing.
+-- A refusal whose number goes by the mode. Assumes nothing.
 use mathlib.Core.Path.{◌≡◌, ◌∙◌}
 use Prim.Native.Nat.{ℕ}
 use Rattle.numbers.specs.declared.refusal.Refusal.{Refusal}

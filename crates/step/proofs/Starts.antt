@@ -1,4 +1,4 @@
-__ A table that passes its tests, with its propositions loaded and nothing made: the root may be run. Assumes nothing.
+-- A table that passes its tests, with its propositions loaded and nothing made: the root may be run. Assumes nothing.
 use mathlib.Core.Path.{◌≡◌}
 use mathlib.Core.List.{List}
 use Prim.Native.Nat.{ℕ, ◌*◌, ◌<◌, ◌≤◌}
@@ -16,7 +16,7 @@ use Rattle.step.specs.declared.state.State.{State}
 use Rattle.step.specs.Rooms.{Rooms, Loaded, count_of, most_nodes, most_goals, run_room}
 use Rattle.step.specs.Contract.{Ready}
 
-__ nothing made yet, and goal a's picture is to be taken
+-- nothing made yet, and goal a's picture is to be taken
 abbrev pub beginning : ℕ → State
 beginning a = record { records = 0; goals = 0; serials = 0; made = 0; context = 0; asked = a }
 

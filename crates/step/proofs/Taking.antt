@@ -1,4 +1,4 @@
-__ The functions of a goal's picture: the loop that copies entries, and what the head's stores and words are. Assumes nothing.
+-- The functions of a goal's picture: the loop that copies entries, and what the head's stores and words are. Assumes nothing.
 use mathlib.Core.Path.{◌≡◌, refl, ap, ap₂, sym, subst, subst⁻¹, ◌∙◌}
 use mathlib.Core.List.{List}
 use mathlib.Core.Logic.{◌⊎◌, inl, inr}
@@ -23,7 +23,7 @@ byte_far l i v j h =
     get_or-set_other (set l i (v % 256)) (i + 1) j (v / 256) 0 (λ e. h (omega arith) (omega arith))
     ∙ get_or-set_other l i j (v % 256) 0 (λ e. h (omega arith) (omega arith))
 
-__ COPYING, one entry after the other
+-- COPYING, one entry after the other
 abbrev pub Apart : (from to n : ℕ) → Type 0
 Apart from to n = (from + n ≤ to) ⊎ (to + n ≤ from)
 
@@ -37,7 +37,7 @@ module _ (old : List ℕ) (from to n i : ℕ) (w : List ℕ) (apart : Apart from
   pub copied_write : 8 * (to + n) ≤ length old → 8 * (to + i) + 8 ≤ length w
   copied_write h = omega (arith, c.size)
 
-  __ what is read is as it was before the first
+  -- what is read is as it was before the first
   unread : Apart from to n → (j : ℕ) → 8 * (from + i) ≤ j → j < 8 * (from + i) + 8 → 8 * to ≤ j → j < 8 * (to + i) → ⊥
   unread (inl h) j lo hi lo' hi' = absurd (omega arith)
   unread (inr h) j lo hi lo' hi' = absurd (omega arith)
@@ -62,14 +62,14 @@ module _ (old : List ℕ) (from to n i : ℕ) (w : List ℕ) (apart : Apart from
 pub copied_done : (old : List ℕ) (from to n i : ℕ) (w : List ℕ) → i ≤ n → n ≤ i → Copied old from to i w → Copied old from to n w
 copied_done old from to n i w h k c = subst (λ (i : ℕ). Copied old from to i w) (omega arith) c
 
-__ there and back
+-- there and back
 pub copy_there : (w₀ w : List ℕ) (n : ℕ) → length w ≡ length w₀ → run_room ≤ length w₀ → n ≤ most_entries → ((8 * (0 + n) ≤ length w) × (8 * (first_pictured + n) ≤ length w)) × Apart 0 first_pictured n
 copy_there w₀ w n e r h = ((omega arith, omega arith), inl (omega arith))
 
 pub copy_back : (w : List ℕ) (n : ℕ) → run_room ≤ length w → n ≤ most_entries → ((8 * (first_pictured + n) ≤ length w) × (8 * (0 + n) ≤ length w)) × Apart first_pictured 0 n
 copy_back w n r h = ((omega arith, omega arith), inr (omega arith))
 
-__ TAKING: the three counts, the type and the entries, with a name for the room after each
+-- TAKING: the three counts, the type and the entries, with a name for the room after each
 module _ (w w₁ w₂ w₃ w₄ w₅ : List ℕ) (T : Sort) (st : State) (e : Entry) (room : run_room ≤ length w) (few : st.context ≤ most_entries) (q₁ : w₁ ≡ put_word w serials_at st.serials)
     (q₂ : w₂ ≡ put_word w₁ made_at st.made) (q₃ : w₃ ≡ put_word w₂ length_at st.context) (ins : Inserted w₃ type_entry e w₄) (typ : e.typ ≡ T)
     (copied : Copied w₄ 0 first_pictured st.context w₅) where
@@ -82,7 +82,7 @@ module _ (w w₁ w₂ w₃ w₄ w₅ : List ℕ) (T : Sort) (st : State) (e : En
   size₃ : length w₃ ≡ length w
   size₃ = ap length q₃ ∙ length_word w₂ length_at st.context ∙ size₂
 
-  __ the head's counts are not written again
+  -- the head's counts are not written again
   late : (j : ℕ) → j < context_room + 8 → get_or w₅ j 0 ≡ get_or w₃ j 0
   late j h = copied.outside j (λ lo hi. absurd (omega arith)) ∙ ins.outside j (λ lo hi. absurd (omega arith))
 
@@ -120,7 +120,7 @@ module _ (w w₁ w₂ w₃ w₄ w₅ : List ℕ) (T : Sort) (st : State) (e : En
   takes_type =
       ap (λ (e : Entry). e.typ) (entry_kept w₄ w₅ type_entry (λ j lo hi. copied.outside j (λ a b. absurd (omega arith))) ∙ ins.here) ∙ typ
 
-  __ the context's entries stay
+  -- the context's entries stay
   before : (j : ℕ) → j < context_room → get_or w₄ j 0 ≡ get_or w j 0
   before j h =
       ins.outside j (λ lo hi. absurd (omega arith))
@@ -147,14 +147,14 @@ module _ (w w₁ w₂ w₃ w₄ w₅ : List ℕ) (T : Sort) (st : State) (e : En
         below = λ j h. copied.outside j (λ lo hi. absurd (omega arith)) ∙ before j h;
       }
 
-__ IF IT IS ASKED FOR
+-- IF IT IS ASKED FOR
 pub pictured_taken : (old new : List ℕ) (T : Sort) (st : State) → st.asked ≡ st.goals → Taken old T st new → Pictured old T st new
 pictured_taken old new T st h t = record { taken = λ q. t; kept = λ n. absurd (n h) }
 
 pub pictured_kept : (old : List ℕ) (T : Sort) (st : State) → (st.asked ≡ st.goals → ⊥) → Pictured old T st old
 pictured_kept old T st h = record { taken = λ q. absurd (h q); kept = λ n. refl }
 
-__ RECALLING: the words of the head
+-- RECALLING: the words of the head
 pub recalls_type : (w : List ℕ) (e : Entry) → e ≡ entry_at w type_entry → e.typ ≡ pictured_type w
 unfolding pictured_type
 recalls_type w e q = ap (λ (e : Entry). e.typ) q

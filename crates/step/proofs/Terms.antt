@@ -1,4 +1,4 @@
-__ How each kind of term begins: its rule's program over its children's runs, where its children stand, how many nodes it has. Assumes nothing.
+-- How each kind of term begins: its rule's program over its children's runs, where its children stand, how many nodes it has. Assumes nothing.
 use mathlib.Core.Path.{◌≡◌, refl, ap, subst, subst⁻¹, ◌∙◌}
 use mathlib.Core.List.{List, [], ◌∷◌}
 use Prim.Native.Nat.{ℕ, ◌+◌, ◌<◌}
@@ -21,7 +21,7 @@ use Rattle.step.specs.Contract.{run_of}
 use Rattle.step.specs.Under.{rest, kid_at}
 use Rattle.step.proofs.Programs.{rest_start}
 
-__ HOW A TERM BEGINS, from its shape: the rule's program, over its children
+-- HOW A TERM BEGINS, from its shape: the rule's program, over its children
 module _ (l : List ℕ) (k : ℕ) (R : Rooms) (w : Want) (st : State) where
   abbrev Γ : Ctx
   Γ = ctx_of l R.props R.work st.context
@@ -52,7 +52,7 @@ module _ (l : List ℕ) (k : ℕ) (R : Rooms) (w : Want) (st : State) where
       ∙ rest_start (triple_step k s (place (term_at l m))) (kid_at l m, (kid_at l n, (kid_at l o, tt))) w Γ (st_of st)
       ∙ ap (λ (p : ℕ). rest w end (obey (triple_step k s p w Γ) (kid_at l m, (kid_at l n, (kid_at l o, tt))) (st_of st))) (place_at l m)
 
-__ its nodes
+-- its nodes
 pub single_nodes : {t a : Term} {k : ℕ} {s : Single} → t ≡ single k s a → nodes t ≡ 1 + nodes a
 unfolding nodes
 single_nodes e = ap nodes e
@@ -65,7 +65,7 @@ pub triple_nodes : {t a b c : Term} {k : ℕ} {s : Triple} → t ≡ triple k s 
 unfolding nodes
 triple_nodes e = ap nodes e
 
-__ KINDS by their numbers: what the term is, and where its children stand
+-- KINDS by their numbers: what the term is, and where its children stand
 module _ {l : List ℕ} (table : Table l) {k : ℕ} (h : k < terms l) where
   abbrev rec : TermRecord
   rec = term_record l k
@@ -90,200 +90,200 @@ module _ {l : List ℕ} (table : Table l) {k : ℕ} (h : k < terms l) where
     unfolding term_children
     only n = child_as K e c₁ (subst⁻¹ (λ (j : ℕ). 0 < hits c₁ (term_children j rec)) n (hit_here c₁ []))
 
-    first-of-two : (term_shape K).children ≡ 2 → (k < c₁) × (c₁ < terms l)
+    first_of_two : (term_shape K).children ≡ 2 → (k < c₁) × (c₁ < terms l)
     unfolding term_children
-    first-of-two n = child_as K e c₁ (subst⁻¹ (λ (j : ℕ). 0 < hits c₁ (term_children j rec)) n (hit_here c₁ (c₂ ∷ [])))
+    first_of_two n = child_as K e c₁ (subst⁻¹ (λ (j : ℕ). 0 < hits c₁ (term_children j rec)) n (hit_here c₁ (c₂ ∷ [])))
 
-    second-of-two : (term_shape K).children ≡ 2 → (k < c₂) × (c₂ < terms l)
+    second_of_two : (term_shape K).children ≡ 2 → (k < c₂) × (c₂ < terms l)
     unfolding term_children
-    second-of-two n = child_as K e c₂ (subst⁻¹ (λ (j : ℕ). 0 < hits c₂ (term_children j rec)) n (hit_later c₂ c₁ (c₂ ∷ []) (hit_here c₂ [])))
+    second_of_two n = child_as K e c₂ (subst⁻¹ (λ (j : ℕ). 0 < hits c₂ (term_children j rec)) n (hit_later c₂ c₁ (c₂ ∷ []) (hit_here c₂ [])))
 
   module _ (e : rec.kind ≡ 0) where
-    kind-ident : kind_of rec.kind ≡ Ident
+    kind_ident : kind_of rec.kind ≡ Ident
     unfolding kind_of kinds
-    kind-ident = ap kind_of e
+    kind_ident = ap kind_of e
 
-    pub is-ident : term_at l k ≡ leaf k (Leaf.ident rec.name1.0)
+    pub is_ident : term_at l k ≡ leaf k (Leaf.ident rec.name1.0)
     unfolding term_of
-    is-ident = term_as Ident kind-ident
+    is_ident = term_as Ident kind_ident
 
   module _ (e : rec.kind ≡ 1) where
-    kind-pair : kind_of rec.kind ≡ Pair
+    kind_pair : kind_of rec.kind ≡ Pair
     unfolding kind_of kinds
-    kind-pair = ap kind_of e
+    kind_pair = ap kind_of e
 
-    pub is-pair : term_at l k ≡ double k Double.pair (term_at l c₁) (term_at l c₂)
+    pub is_pair : term_at l k ≡ double k Double.pair (term_at l c₁) (term_at l c₂)
     unfolding term_of
-    is-pair = term_as Pair kind-pair
+    is_pair = term_as Pair kind_pair
 
-    pub pair-first : (k < c₁) × (c₁ < terms l)
+    pub pair_first : (k < c₁) × (c₁ < terms l)
     unfolding term_shape
-    pair-first = first-of-two Pair kind-pair refl
+    pair_first = first_of_two Pair kind_pair refl
 
-    pub pair-second : (k < c₂) × (c₂ < terms l)
+    pub pair_second : (k < c₂) × (c₂ < terms l)
     unfolding term_shape
-    pair-second = second-of-two Pair kind-pair refl
+    pair_second = second_of_two Pair kind_pair refl
 
   module _ (e : rec.kind ≡ 2) where
-    kind-fst : kind_of rec.kind ≡ ProjectFst
+    kind_fst : kind_of rec.kind ≡ ProjectFst
     unfolding kind_of kinds
-    kind-fst = ap kind_of e
+    kind_fst = ap kind_of e
 
-    pub is-fst : term_at l k ≡ single k Single.fst (term_at l c₁)
+    pub is_fst : term_at l k ≡ single k Single.fst (term_at l c₁)
     unfolding term_of
-    is-fst = term_as ProjectFst kind-fst
+    is_fst = term_as ProjectFst kind_fst
 
-    pub fst-child : (k < c₁) × (c₁ < terms l)
+    pub fst_child : (k < c₁) × (c₁ < terms l)
     unfolding term_shape
-    fst-child = only ProjectFst kind-fst refl
+    fst_child = only ProjectFst kind_fst refl
 
   module _ (e : rec.kind ≡ 3) where
-    kind-snd : kind_of rec.kind ≡ ProjectSnd
+    kind_snd : kind_of rec.kind ≡ ProjectSnd
     unfolding kind_of kinds
-    kind-snd = ap kind_of e
+    kind_snd = ap kind_of e
 
-    pub is-snd : term_at l k ≡ single k Single.snd (term_at l c₁)
+    pub is_snd : term_at l k ≡ single k Single.snd (term_at l c₁)
     unfolding term_of
-    is-snd = term_as ProjectSnd kind-snd
+    is_snd = term_as ProjectSnd kind_snd
 
-    pub snd-child : (k < c₁) × (c₁ < terms l)
+    pub snd_child : (k < c₁) × (c₁ < terms l)
     unfolding term_shape
-    snd-child = only ProjectSnd kind-snd refl
+    snd_child = only ProjectSnd kind_snd refl
 
   module _ (e : rec.kind ≡ 4) where
-    kind-fun : kind_of rec.kind ≡ Function
+    kind_fun : kind_of rec.kind ≡ Function
     unfolding kind_of kinds
-    kind-fun = ap kind_of e
+    kind_fun = ap kind_of e
 
-    pub is-fun : term_at l k ≡ single k (Single.fun rec.name1.0 (annotated l k)) (term_at l c₁)
+    pub is_fun : term_at l k ≡ single k (Single.fun rec.name1.0 (annotated l k)) (term_at l c₁)
     unfolding term_of
-    is-fun = term_as Function kind-fun
+    is_fun = term_as Function kind_fun
 
-    pub fun-child : (k < c₁) × (c₁ < terms l)
+    pub fun_child : (k < c₁) × (c₁ < terms l)
     unfolding term_shape
-    fun-child = only Function kind-fun refl
+    fun_child = only Function kind_fun refl
 
   module _ (e : rec.kind ≡ 5) where
-    kind-app : kind_of rec.kind ≡ Application
+    kind_app : kind_of rec.kind ≡ Application
     unfolding kind_of kinds
-    kind-app = ap kind_of e
+    kind_app = ap kind_of e
 
-    pub is-app : term_at l k ≡ double k Double.app (term_at l c₁) (term_at l c₂)
+    pub is_app : term_at l k ≡ double k Double.app (term_at l c₁) (term_at l c₂)
     unfolding term_of
-    is-app = term_as Application kind-app
+    is_app = term_as Application kind_app
 
-    pub app-first : (k < c₁) × (c₁ < terms l)
+    pub app_first : (k < c₁) × (c₁ < terms l)
     unfolding term_shape
-    app-first = first-of-two Application kind-app refl
+    app_first = first_of_two Application kind_app refl
 
-    pub app-second : (k < c₂) × (c₂ < terms l)
+    pub app_second : (k < c₂) × (c₂ < terms l)
     unfolding term_shape
-    app-second = second-of-two Application kind-app refl
+    app_second = second_of_two Application kind_app refl
 
   module _ (e : rec.kind ≡ 6) where
-    kind-let : kind_of rec.kind ≡ LetIn
+    kind_let : kind_of rec.kind ≡ LetIn
     unfolding kind_of kinds
-    kind-let = ap kind_of e
+    kind_let = ap kind_of e
 
-    pub is-let : term_at l k ≡ double k (Double.let_in rec.name1.0 rec.name2.0) (term_at l c₁) (term_at l c₂)
+    pub is_let : term_at l k ≡ double k (Double.let_in rec.name1.0 rec.name2.0) (term_at l c₁) (term_at l c₂)
     unfolding term_of
-    is-let = term_as LetIn kind-let
+    is_let = term_as LetIn kind_let
 
-    pub let-first : (k < c₁) × (c₁ < terms l)
+    pub let_first : (k < c₁) × (c₁ < terms l)
     unfolding term_shape
-    let-first = first-of-two LetIn kind-let refl
+    let_first = first_of_two LetIn kind_let refl
 
-    pub let-second : (k < c₂) × (c₂ < terms l)
+    pub let_second : (k < c₂) × (c₂ < terms l)
     unfolding term_shape
-    let-second = second-of-two LetIn kind-let refl
+    let_second = second_of_two LetIn kind_let refl
 
   module _ (e : rec.kind ≡ 7) where
-    kind-left : kind_of rec.kind ≡ OrLeft
+    kind_left : kind_of rec.kind ≡ OrLeft
     unfolding kind_of kinds
-    kind-left = ap kind_of e
+    kind_left = ap kind_of e
 
-    pub is-left : term_at l k ≡ single k Single.left (term_at l c₁)
+    pub is_left : term_at l k ≡ single k Single.left (term_at l c₁)
     unfolding term_of
-    is-left = term_as OrLeft kind-left
+    is_left = term_as OrLeft kind_left
 
-    pub left-child : (k < c₁) × (c₁ < terms l)
+    pub left_child : (k < c₁) × (c₁ < terms l)
     unfolding term_shape
-    left-child = only OrLeft kind-left refl
+    left_child = only OrLeft kind_left refl
 
   module _ (e : rec.kind ≡ 8) where
-    kind-right : kind_of rec.kind ≡ OrRight
+    kind_right : kind_of rec.kind ≡ OrRight
     unfolding kind_of kinds
-    kind-right = ap kind_of e
+    kind_right = ap kind_of e
 
     pub is_right : term_at l k ≡ single k Single.right (term_at l c₁)
     unfolding term_of
-    is_right = term_as OrRight kind-right
+    is_right = term_as OrRight kind_right
 
     pub right_child : (k < c₁) × (c₁ < terms l)
     unfolding term_shape
-    right_child = only OrRight kind-right refl
+    right_child = only OrRight kind_right refl
 
   module _ (e : rec.kind ≡ 9) where
-    kind-case : kind_of rec.kind ≡ Case
+    kind_case : kind_of rec.kind ≡ Case
     unfolding kind_of kinds
-    kind-case = ap kind_of e
+    kind_case = ap kind_of e
 
-    pub is-case : term_at l k ≡ triple k (Triple.case rec.name1.0 rec.name2.0) (term_at l c₁) (term_at l c₂) (term_at l c₃)
+    pub is_case : term_at l k ≡ triple k (Triple.case rec.name1.0 rec.name2.0) (term_at l c₁) (term_at l c₂) (term_at l c₃)
     unfolding term_of
-    is-case = term_as Case kind-case
+    is_case = term_as Case kind_case
 
-    pub case-head : (k < c₁) × (c₁ < terms l)
+    pub case_head : (k < c₁) × (c₁ < terms l)
     unfolding term_shape term_children
-    case-head = child_as Case kind-case c₁ (hit_here c₁ (c₂ ∷ c₃ ∷ []))
+    case_head = child_as Case kind_case c₁ (hit_here c₁ (c₂ ∷ c₃ ∷ []))
 
-    pub case-left : (k < c₂) × (c₂ < terms l)
+    pub case_left : (k < c₂) × (c₂ < terms l)
     unfolding term_shape term_children
-    case-left = child_as Case kind-case c₂ (hit_later c₂ c₁ (c₂ ∷ c₃ ∷ []) (hit_here c₂ (c₃ ∷ [])))
+    case_left = child_as Case kind_case c₂ (hit_later c₂ c₁ (c₂ ∷ c₃ ∷ []) (hit_here c₂ (c₃ ∷ [])))
 
-    pub case-right : (k < c₃) × (c₃ < terms l)
+    pub case_right : (k < c₃) × (c₃ < terms l)
     unfolding term_shape term_children
-    case-right = child_as Case kind-case c₃ (hit_later c₃ c₁ (c₂ ∷ c₃ ∷ []) (hit_later c₃ c₂ (c₃ ∷ []) (hit_here c₃ [])))
+    case_right = child_as Case kind_case c₃ (hit_later c₃ c₁ (c₂ ∷ c₃ ∷ []) (hit_later c₃ c₂ (c₃ ∷ []) (hit_here c₃ [])))
 
   module _ (e : rec.kind ≡ 10) where
-    kind-abort : kind_of rec.kind ≡ Abort
+    kind_abort : kind_of rec.kind ≡ Abort
     unfolding kind_of kinds
-    kind-abort = ap kind_of e
+    kind_abort = ap kind_of e
 
-    pub is-abort : term_at l k ≡ single k Single.abort (term_at l c₁)
+    pub is_abort : term_at l k ≡ single k Single.abort (term_at l c₁)
     unfolding term_of
-    is-abort = term_as Abort kind-abort
+    is_abort = term_as Abort kind_abort
 
-    pub abort-child : (k < c₁) × (c₁ < terms l)
+    pub abort_child : (k < c₁) × (c₁ < terms l)
     unfolding term_shape
-    abort-child = only Abort kind-abort refl
+    abort_child = only Abort kind_abort refl
 
   module _ (e : rec.kind ≡ 11) where
-    kind-unit : kind_of rec.kind ≡ TheUnit
+    kind_unit : kind_of rec.kind ≡ TheUnit
     unfolding kind_of kinds
-    kind-unit = ap kind_of e
+    kind_unit = ap kind_of e
 
-    pub is-unit : term_at l k ≡ leaf k Leaf.unit
+    pub is_unit : term_at l k ≡ leaf k Leaf.unit
     unfolding term_of
-    is-unit = term_as TheUnit kind-unit
+    is_unit = term_as TheUnit kind_unit
 
   module _ (e : rec.kind ≡ 12) where
-    kind-as : kind_of rec.kind ≡ TypeAscription
+    kind_as : kind_of rec.kind ≡ TypeAscription
     unfolding kind_of kinds
-    kind-as = ap kind_of e
+    kind_as = ap kind_of e
 
-    pub is-as : term_at l k ≡ ascribed k (annotated l k) (term_at l c₁)
+    pub is_as : term_at l k ≡ ascribed k (annotated l k) (term_at l c₁)
     unfolding term_of
-    is-as = term_as TypeAscription kind-as
+    is_as = term_as TypeAscription kind_as
 
-    pub as-child : (k < c₁) × (c₁ < terms l)
+    pub as_child : (k < c₁) × (c₁ < terms l)
     unfolding term_shape
-    as-child = only TypeAscription kind-as refl
+    as_child = only TypeAscription kind_as refl
 
   module _ (e : rec.kind ≡ 13) where
-    kind-sorry : kind_of rec.kind ≡ Sorry
+    kind_sorry : kind_of rec.kind ≡ Sorry
     unfolding kind_of kinds
-    kind-sorry = ap kind_of e
+    kind_sorry = ap kind_of e
 
-    pub is-sorry : term_at l k ≡ sorry k
+    pub is_sorry : term_at l k ≡ sorry k
     unfolding term_of
-    is-sorry = term_as Sorry kind-sorry
+    is_sorry = term_as Sorry kind_sorry

@@ -1,4 +1,4 @@
-__ Annotations and new entries: what the code does is what the rules do. Assumes nothing.
+-- Annotations and new entries: what the code does is what the rules do. Assumes nothing.
 use mathlib.Core.Path.{◌≡◌, refl, ap, sym, subst, subst⁻¹, ◌∙◌}
 use mathlib.Core.Bool.{Bool, true, false, cond}
 use mathlib.Core.List.{List}
@@ -45,7 +45,7 @@ use Rattle.step.specs.Steps.{annotation_of, AnnotationIn, ResolvedTo, ResolvingA
 use Rattle.step.proofs.Refusing.{mode_refusal}
 use Rattle.step.proofs.Moves.{making_none, making_more, make_goes, make_stops, GrownTo}
 
-__ AN ENTRY of a new identifier
+-- AN ENTRY of a new identifier
 pub fresh_room : (st s : State) (work : List ℕ) → s ≡ numbered st → 8 * st.context + 8 ≤ length work → 8 * s.context + 8 ≤ length work
 fresh_room st s work e h = subst⁻¹ (λ (s : State). 8 * s.context + 8 ≤ length work) e h
 
@@ -63,7 +63,7 @@ fresh_inserted st s x y i T old new ey ei es ins =
     let e : a ≡ b = λ j. record { name = ey j; serial = record { 0 = ei j }; typ = T } in
     subst (λ (e : Entry). Inserted old st.context e new) e (subst (λ (s : State). Inserted old s.context a new) es ins)
 
-__ THE ANNOTATION of a record
+-- THE ANNOTATION of a record
 pub annotation_prop : (t m : ℕ) → t ≡ 1 → annotation.Of (sort.Proposition (record { 0 = m })) ≡ annotation_of t m
 annotation_prop t m e = rw e
 
@@ -72,7 +72,7 @@ annotation_data zero m a b = absurd (a refl)
 annotation_data (suc zero) m a b = absurd (b refl)
 annotation_data (suc (suc t)) m a b = refl
 
-__ RESOLVING the annotation of term p: `arena`'s answer, as the rules see it
+-- RESOLVING the annotation of term p: `arena`'s answer, as the rules see it
 module _ (l ps work ps' : List ℕ) (p : ℕ) (w : Want) (T : Sort) (c left : ℕ) (st : State) (o : Resolved) (ec : c ≡ count_of l st) (el : left + st.made ≡ limit) (says : ResolvedIs ps c left work st.context T ps' o) where
   abbrev n : ℕ
   n = number_of w 10 20
@@ -98,13 +98,13 @@ module _ (l ps work ps' : List ℕ) (p : ℕ) (w : Want) (T : Sort) (c left : �
     to : ResolvesTo ps c left work st.context T ps' u e
     to = subst (ResolvedIs ps c left work st.context T ps') q says
 
-    pub resolve-more : Counted l → (c ≤ e) × (st.made + e ≤ largest)
+    pub resolve_more : Counted l → (c ≤ e) × (st.made + e ≤ largest)
     unfolding limit
-    resolve-more h = let a = to.count 0 (omega arith) in let b = to.within in (omega arith, omega (arith, h.propositions, ec, el))
+    resolve_more h = let a = to.count 0 (omega arith) in let b = to.within in (omega arith, omega (arith, h.propositions, ec, el))
 
-    pub resolve-to : (s : State) → GrownTo st c e s → ResolvingAs l ps work ps' p w T st (resolving.To u s)
+    pub resolve_to : (s : State) → GrownTo st c e s → ResolvingAs l ps work ps' p w T st (resolving.To u s)
     unfolding resolved on_type
-    resolve-to s g =
+    resolve_to s g =
         let A : Ty = reads l ps' u in
         let count : e ≡ c + size_ty A = to.count (props l) (omega arith) in
         let within : e ≤ c + left = to.within in
@@ -128,7 +128,7 @@ module _ (l ps work ps' : List ℕ) (p : ℕ) (w : Want) (T : Sort) (c left : �
               ∙ (λ i. obey (k A) ks (record { serials = sym g.3 i; made = sym more i }));
         }
 
-__ AGREEING
+-- AGREEING
 pub agree_type : (c : ℕ) (ann : Annotation) (T : Sort) → ann ≡ annotation.Of T → AnnotationIn c ann → TypeIn c T
 agree_type c ann T e h = subst (AnnotationIn c) e h
 
@@ -138,9 +138,9 @@ module _ (l ps work : List ℕ) (p : ℕ) (ann : Annotation) (A : Sort) (st : St
   agree_missing e ok m = subst⁻¹ (λ (ann : Annotation). AgreedAs l ps work ps p ann A st (agreed.On st)) e (record { making = making_none ok.arena m; goes = λ a k ks. refl })
 
   module _ (ps' : List ℕ) (T : Sort) (r : Resolving) (e : ann ≡ annotation.Of T) (says : ResolvingAs l ps work ps' p (want.Check A) T st r) where
-    pub agree-refused : (x : Refusal) → r ≡ resolving.Refused x → AgreedAs l ps work ps' p ann A st (agreed.Refused x)
+    pub agree_refused : (x : Refusal) → r ≡ resolving.Refused x → AgreedAs l ps work ps' p ann A st (agreed.Refused x)
     unfolding annotated
-    agree-refused x q =
+    agree_refused x q =
         subst⁻¹ (λ (ann : Annotation). AgreedAs l ps work ps' p ann A st (agreed.Refused x)) e
         (λ a k ks. subst (ResolvingAs l ps work ps' p (want.Check A) T st) q says a (λ B. cond (alpha B (reads l ps A)) k (refuse 14 p)) ks)
 
@@ -148,18 +148,18 @@ module _ (l ps work : List ℕ) (p : ℕ) (ann : Annotation) (A : Sort) (st : St
       went : ResolvedTo l ps work ps' p (want.Check A) T st U s
       went = subst (ResolvingAs l ps work ps' p (want.Check A) T st) q says
 
-      pub agree-counts : Counted l → count_of l s ≤ most_records
-      agree-counts h = let a = went.making.within in omega (arith, h.propositions)
+      pub agree_counts : Counted l → count_of l s ≤ most_records
+      agree_counts h = let a = went.making.within in omega (arith, h.propositions)
 
       module _ (c : ℕ) (ec : c ≡ count_of l s) where
-        pub agree-arena : Arena ps' c
-        agree-arena = subst⁻¹ (Arena ps') ec went.making.arena
+        pub agree_arena : Arena ps' c
+        agree_arena = subst⁻¹ (Arena ps') ec went.making.arena
 
-        pub agree-resolved : TypeIn c U
-        agree-resolved = subst⁻¹ (λ (c : ℕ). TypeIn c U) ec went.stands.among
+        pub agree_resolved : TypeIn c U
+        agree_resolved = subst⁻¹ (λ (c : ℕ). TypeIn c U) ec went.stands.among
 
-        pub agree-expected : TypeIn (count_of l st) A → TypeIn c A
-        agree-expected h = let a = making_more went.making in type_more (count_of l st) c A (omega arith) h
+        pub agree_expected : TypeIn (count_of l st) A → TypeIn c A
+        agree_expected h = let a = making_more went.making in type_more (count_of l st) c A (omega arith) h
 
       module _ (ok : Loaded l ps (count_of l st)) (among : TypeIn (count_of l st) A) (d : Compared) (answer : (tables : ℕ) → d ≡ compared_types (type_at tables ps' U) (type_at tables ps' A)) (b : Bool) (eb : b ≡ is_alpha d) where
         tests : alpha went.typ (reads l ps A) ≡ b
@@ -180,9 +180,9 @@ module _ (l ps work : List ℕ) (p : ℕ) (ann : Annotation) (A : Sort) (st : St
                   ∙ ap (λ (b : Bool). obey (cond b k (refuse 14 p)) ks (st_of s)) (tests ∙ t);
             })
 
-        pub agree-apart : b ≡ false → (x : Refusal) → x ≡ record { number = 14; place = p } → AgreedAs l ps work ps' p ann A st (agreed.Refused x)
+        pub agree_apart : b ≡ false → (x : Refusal) → x ≡ record { number = 14; place = p } → AgreedAs l ps work ps' p ann A st (agreed.Refused x)
         unfolding annotated obey
-        agree-apart t x ex =
+        agree_apart t x ex =
             subst⁻¹ (λ (x : Refusal). AgreedAs l ps work ps' p ann A st (agreed.Refused x)) ex
             (subst⁻¹ (λ (ann : Annotation). AgreedAs l ps work ps' p ann A st (agreed.Refused (record { number = 14; place = p }))) e
             (λ a k ks.

@@ -1,4 +1,4 @@
-__ What `check` and `synthesize` ask and promise, by cases on the answer. Assumes nothing.
+-- What `check` and `synthesize` ask and promise, by cases on the answer. Assumes nothing.
 use Rattle.std.specs.Prelude.{◌≡◌, List, ℕ, ◌+◌, ◌*◌, ◌<◌, ◌≤◌, length, Bool, ◌||◌, eqb}
 use Rattle.numbers.specs.declared.Sort.{Sort}
 use Rattle.numbers.specs.declared.refusal.Refusal.{Refusal}
@@ -21,7 +21,7 @@ use Rattle.step.specs.Modes.{mode}
 use Rattle.step.specs.Trees.{SameGoals, TreesAre}
 use Rattle.step.specs.Picture.{SamePicture, PicturesAre}
 
-__ BEFORE: the rooms have space for all that the term can come to; the table's other terms gave at most two serials and two entries each
+-- BEFORE: the rooms have space for all that the term can come to; the table's other terms gave at most two serials and two entries each
 pub record Ready (l : List ℕ) (R : Rooms) (k : ℕ) (st : State) : Type 0 where
   pub base : Base l R st
   pub here : k < terms l
@@ -30,7 +30,7 @@ pub record Ready (l : List ℕ) (R : Rooms) (k : ℕ) (st : State) : Type 0 wher
   pub serials : st.serials + 2 * nodes (term_at l k) ≤ serials_cap l
   pub context : st.context + 2 * nodes (term_at l k) ≤ entries_cap l
 
-__ THE FRAME: there are now d propositions; the first c of them, r tree records, g goals (and the picture, if of goal a < g) and n entries are kept
+-- THE FRAME: there are now d propositions; the first c of them, r tree records, g goals (and the picture, if of goal a < g) and n entries are kept
 pub record Grown (R R' : Rooms) (c d r g n a : ℕ) : Type 0 where
   pub arena : Arena R'.props d
   pub more : c ≤ d
@@ -44,7 +44,7 @@ pub record Grown (R R' : Rooms) (c d r g n a : ℕ) : Type 0 where
   pub goals_long : length R'.goals ≡ length R.goals
   pub work_long : length R'.work ≡ length R.work
 
-__ AFTER: from the old counts up to the new ones stand these trees, the context is as long as before, and the same picture is asked for
+-- AFTER: from the old counts up to the new ones stand these trees, the context is as long as before, and the same picture is asked for
 pub record Left (l : List ℕ) (R R' : Rooms) (st st' : State) (ts : Trees) : Type 0 where
   pub records : st'.records ≡ st.records + records ts
   pub goals : st'.goals ≡ st.goals + holes ts
@@ -54,7 +54,7 @@ pub record Left (l : List ℕ) (R R' : Rooms) (st st' : State) (ts : Trees) : Ty
   pub pictures : PicturesAre l R'.props R'.work st.asked (count_of l st') st.goals ts
   pub grown : Grown R R' (count_of l st) (count_of l st') st.records st.goals st.context st.asked
 
-__ the rules accept, with these counts, and their tree is left
+-- the rules accept, with these counts, and their tree is left
 pub record Accepts (l : List ℕ) (R R' : Rooms) (st st' : State) (o : Out Answer) : Type 0 where
   pub answer : Answer
   pub accepts : o ≡ ok answer (st_of st')
@@ -64,11 +64,11 @@ pub record Answers (l : List ℕ) (R R' : Rooms) (st st' : State) (T : Sort) (o 
   pub accepted : Accepts l R R' st st' o
   pub type : Stands l R'.props (count_of l st') T accepted.answer.ty
 
-__ the run of term k
+-- the run of term k
 abbrev pub run_of : (l : List ℕ) → Rooms → ℕ → Mode → State → Out Answer
 run_of l R k w st = run (term_at l k) w (ctx_of l R.props R.work st.context) (st_of st)
 
-__ a refusal, as the rules have it, and one of theirs, as the code tells it
+-- a refusal, as the rules have it, and one of theirs, as the code tells it
 abbrev pub refusal_of : Refusal → Fault
 refusal_of r = refusal r.number r.place
 
@@ -78,11 +78,11 @@ told s = refusal_at s.number s.place
 abbrev pub Refuses : {X : Type 0} → Out X → Refusal → Type 0
 Refuses o r = o ≡ stop (refusal_of r)
 
-__ THE CONTRACT of check and of synthesize: term k, run as it is wanted from the rooms R and the counts st, has come to this
+-- THE CONTRACT of check and of synthesize: term k, run as it is wanted from the rooms R and the counts st, has come to this
 abbrev pub RanAs : (l : List ℕ) → (R R' : Rooms) → ℕ → Want → State → Ran → Type 0
 RanAs l R R' k w st (ran.Has T st') = Answers l R R' st st' T (run_of l R k (mode l R.props w) st)
 RanAs l R R' k w st (ran.Refused r) = Refuses (run_of l R k (mode l R.props w) st) r
 
-__ the kinds whose check is a comparison: Ident, projections, Application
+-- the kinds whose check is a comparison: Ident, projections, Application
 unfoldable pub synthesizes : ℕ → Bool
 synthesizes k = eqb k 0 || (eqb k 2 || (eqb k 3 || eqb k 5))

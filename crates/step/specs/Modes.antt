@@ -1,4 +1,4 @@
-__ Checking and synthesis, as the code tells them apart and as the rules do. Assumes nothing.
+-- Checking and synthesis, as the code tells them apart and as the rules do. Assumes nothing.
 use Rattle.std.specs.Prelude.{List, ℕ}
 use Rattle.numbers.specs.declared.Sort.{Sort}
 use Rattle.rules.specs.Step.{Want as Mode, synth, check}
@@ -7,22 +7,22 @@ use Rattle.step.specs.declared.state.Want.{Want}
 use Rattle.step.specs.declared.state.Want.TheVariants as want
 use Rattle.step.specs.Rooms.{reads}
 
-__ what is wanted, read in a propositions room
+-- what is wanted, read in a propositions room
 abbrev pub mode : (l ps : List ℕ) → Want → Mode
 mode l ps want.Synth = synth
 mode l ps (want.Check T) = check (reads l ps T)
 
-__ it is among the first c propositions
+-- it is among the first c propositions
 abbrev pub WantIn : ℕ → Want → Type 0
 WantIn c want.Synth = Unit {0}
 WantIn c (want.Check T) = TypeIn c T
 
-__ the type that a rule answers
+-- the type that a rule answers
 abbrev pub answer_of : Want → Sort → Sort
 answer_of want.Synth T = T
 answer_of (want.Check E) T = E
 
-__ of two refusal numbers, the mode's
+-- of two refusal numbers, the mode's
 abbrev pub number_of : Want → ℕ → ℕ → ℕ
 number_of want.Synth a b = b
 number_of (want.Check E) a b = a

@@ -1,5 +1,5 @@
-__ Document 01, "Tree, goals, filling": a filling starts with the context and the counts reached at its hole. A run keeps these of one goal, which its
-__ caller asks for by number: the picture of that goal, in the work room behind the context's entries. Assumes nothing.
+-- Document 01, "Tree, goals, filling": a filling starts with the context and the counts reached at its hole. A run keeps these of one goal, which its
+-- caller asks for by number: the picture of that goal, in the work room behind the context's entries. Assumes nothing.
 use Rattle.std.specs.Prelude.{◌≡◌, List, [], ◌∷◌, ℕ, zero, suc, ◌+◌, ◌*◌, ◌<◌, ◌≤◌, length, get_or}
 use Rattle.numbers.specs.declared.Sort.{Sort}
 use Rattle.numbers.specs.Limits.{none}
@@ -14,8 +14,8 @@ use Rattle.context.specs.Context.{most_entries, context_room, entry_at, stands}
 use Rattle.step.specs.declared.state.State.{State}
 use Rattle.step.specs.Rooms.{st_of, count_of, starting, reads, ctx_of, Stands, Entries, first_pictured, serials_cap, entries_cap}
 
-__ THE PLACE. Its head is three numbers of 16 bits (the counts at the hole: serials, propositions made, entries) and an entry, of which only the type
-__ says something: it is the wanted one. The hole's entries follow
+-- THE PLACE. Its head is three numbers of 16 bits (the counts at the hole: serials, propositions made, entries) and an entry, of which only the type
+-- says something: it is the wanted one. The hole's entries follow
 abbrev pub serials_at : ℕ
 serials_at = context_room
 
@@ -37,17 +37,17 @@ pictured_type w = (entry_at w type_entry).typ
 unfoldable pub pictured_at : List ℕ → ℕ → Entry
 pictured_at w i = entry_at w (first_pictured + i)
 
-__ what its first n entries are to the rules, the latest first
+-- what its first n entries are to the rules, the latest first
 unfoldable pub pictured_ctx : (Sort → Ty) → List ℕ → ℕ → Ctx
 pictured_ctx f w zero = []
 pictured_ctx f w (suc n) = stands f (pictured_at w n) ∷ pictured_ctx f w n
 
-__ nothing behind the context's entries changed
+-- nothing behind the context's entries changed
 abbrev pub SamePicture : List ℕ → List ℕ → Type 0
 SamePicture old new = (i : ℕ) → context_room ≤ i → get_or new i 0 ≡ get_or old i 0
 
-__ THE PICTURE OF A GAP, where there are now c propositions: its types are among those that there were at the hole. Each term before the hole gave at
-__ most two serials and two entries
+-- THE PICTURE OF A GAP, where there are now c propositions: its types are among those that there were at the hole. Each term before the hole gave at
+-- most two serials and two entries
 pub record PictureIs (l ps w : List ℕ) (c : ℕ) (g : Gap) : Type 0 where
   pub counts : st_of (pictured_state w) ≡ g.state
   pub wanted : Stands l ps (count_of l (pictured_state w)) (pictured_type w) g.wanted
@@ -58,19 +58,19 @@ pub record PictureIs (l ps w : List ℕ) (c : ℕ) (g : Gap) : Type 0 where
   pub few_serials : (pictured_state w).serials + 2 ≤ serials_cap l
   pub few_entries : (pictured_state w).context + 2 ≤ entries_cap l
 
-__ of these trees, whose first gap is goal m, goal a has its picture
+-- of these trees, whose first gap is goal m, goal a has its picture
 unfoldable pub PicturesAre : (l ps w : List ℕ) → (a c m : ℕ) → Trees → Type 0
 PicturesAre l ps w a c m end = Unit {0}
 PicturesAre l ps w a c m (gap g ts) = (m ≡ a → PictureIs l ps w c g) × PicturesAre l ps w a c (m + 1) ts
 PicturesAre l ps w a c m (node nd ps' ts) = PicturesAre l ps w a c m ps' × PicturesAre l ps w a c (m + holes ps') ts
 
-__ n ENTRIES COPIED, from one number on to another
+-- n ENTRIES COPIED, from one number on to another
 pub record Copied (old : List ℕ) (from to n : ℕ) (new : List ℕ) : Type 0 where
   pub size : length new ≡ length old
   pub entries : (i : ℕ) → i < n → entry_at new (to + i) ≡ entry_at old (from + i)
   pub outside : (i : ℕ) → (8 * to ≤ i → i < 8 * (to + n) → ⊥) → get_or new i 0 ≡ get_or old i 0
 
-__ TAKING the picture of a hole that wants T at st
+-- TAKING the picture of a hole that wants T at st
 pub record Taken (old : List ℕ) (T : Sort) (st : State) (new : List ℕ) : Type 0 where
   pub state : pictured_state new ≡ starting st
   pub wanted : pictured_type new ≡ T
@@ -78,12 +78,12 @@ pub record Taken (old : List ℕ) (T : Sort) (st : State) (new : List ℕ) : Typ
   pub size : length new ≡ length old
   pub below : (i : ℕ) → i < context_room → get_or new i 0 ≡ get_or old i 0
 
-__ it is taken if the next goal is the one that is asked for
+-- it is taken if the next goal is the one that is asked for
 pub record Pictured (old : List ℕ) (T : Sort) (st : State) (new : List ℕ) : Type 0 where
   pub taken : st.asked ≡ st.goals → Taken old T st new
   pub kept : (st.asked ≡ st.goals → ⊥) → new ≡ old
 
-__ STARTING from the picture of g: in a work room that has the context back, T and st are what a filling's run begins with
+-- STARTING from the picture of g: in a work room that has the context back, T and st are what a filling's run begins with
 pub record StartsAt (l ps w : List ℕ) (g : Gap) (T : Sort) (st : State) : Type 0 where
   pub counts : st_of st ≡ g.state
   pub wanted : Stands l ps (count_of l st) T g.wanted

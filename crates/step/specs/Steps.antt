@@ -1,5 +1,5 @@
-__ Parts of the rules that do not recurse: what the functions for them promise. Each says how a rule's program goes on, or where it stops, for
-__ whatever comes after that part. Assumes nothing.
+-- Parts of the rules that do not recurse: what the functions for them promise. Each says how a rule's program goes on, or where it stops, for
+-- whatever comes after that part. Assumes nothing.
 use Rattle.std.specs.Prelude.{◌≡◌, List, [], ◌∷◌, ℕ, zero, suc, ◌+◌, ◌≤◌, length}
 use Rattle.std.proofs.Math.Option.{Option, none, some}
 use Rattle.numbers.specs.declared.Proposition.{Proposition}
@@ -40,21 +40,21 @@ use Rattle.step.specs.Modes.{number_of}
 use Rattle.step.specs.Picture.{SamePicture}
 use Rattle.step.specs.Contract.{Refuses}
 
-__ A PROGRAM goes on as another, or stops
+-- A PROGRAM goes on as another, or stops
 abbrev pub Goes : {n : Arity} → Prog n → State → Prog n → State → Type 0
 Goes {n} q st q' st' = (ks : Kids n) → obey q ks (st_of st) ≡ obey q' ks (st_of st')
 
 abbrev pub Stops : {n : Arity} → Prog n → State → Refusal → Type 0
 Stops {n} q st r = (ks : Kids n) → Refuses (obey q ks (st_of st)) r
 
-__ the same of a program whose next child may be an Ident
+-- the same of a program whose next child may be an Ident
 abbrev pub GoesAt : {n : Arity} → Option ℕ → Prog (more n) → State → Prog (more n) → State → Type 0
 GoesAt {n} x q st q' st' = (ks : Kids (more n)) → ks.0.ident ≡ x → obey q ks (st_of st) ≡ obey q' ks (st_of st')
 
 abbrev pub StopsAt : {n : Arity} → Option ℕ → Prog (more n) → State → Refusal → Type 0
 StopsAt {n} x q st r = (ks : Kids (more n)) → ks.0.ident ≡ x → Refuses (obey q ks (st_of st)) r
 
-__ PROPOSITIONS were made, and nothing else happened
+-- PROPOSITIONS were made, and nothing else happened
 pub record Making (l ps ps' : List ℕ) (st st' : State) : Type 0 where
   pub spent : ℕ
   pub state : st' ≡ making spent st
@@ -63,18 +63,18 @@ pub record Making (l ps ps' : List ℕ) (st st' : State) : Type 0 where
   pub same : Same (count_of l st) ps ps'
   pub long : length ps' ≡ length ps
 
-__ THE ANNOTATION of a term's record: tag 0 none, 1 a proposition, 2 a datatype
+-- THE ANNOTATION of a term's record: tag 0 none, 1 a proposition, 2 a datatype
 abbrev pub annotation_of : (tag number : ℕ) → Annotation
 annotation_of zero m = annotation.Missing
 annotation_of (suc zero) m = annotation.Of (sort.Proposition (record { 0 = m }))
 annotation_of (suc (suc t)) m = annotation.Of (sort.Datatype (record { 0 = m }))
 
-__ its type is among the first c propositions
+-- its type is among the first c propositions
 abbrev pub AnnotationIn : ℕ → Annotation → Type 0
 AnnotationIn c (annotation.Of T) = TypeIn c T
 AnnotationIn c annotation.Missing = Unit {0}
 
-__ RESOLVING the annotation T of term p
+-- RESOLVING the annotation T of term p
 pub record ResolvedTo (l ps work ps' : List ℕ) (p : ℕ) (w : Want) (T : Sort) (st : State) (U : Sort) (st' : State) : Type 0 where
   pub typ : Ty
   pub stands : Stands l ps' (count_of l st') U typ
@@ -87,12 +87,12 @@ ResolvingAs l ps work ps' p w T st (resolving.To U st') = ResolvedTo l ps work p
 ResolvingAs l ps work ps' p w T st (resolving.Refused r) =
     (a : Arity) (k : Ty → Prog a) → Stops (resolved (number_of w 10 20) p (ctx_of l ps work st.context) (reads l ps T) k) st r
 
-__ what an annotation says to the rules
+-- what an annotation says to the rules
 abbrev pub saying : (l ps : List ℕ) → Annotation → Option Ty
 saying l ps (annotation.Of T) = some (reads l ps T)
 saying l ps annotation.Missing = none
 
-__ THE ANNOTATION of the function p against the type A of its parameter
+-- THE ANNOTATION of the function p against the type A of its parameter
 pub record AgreedOn (l ps work ps' : List ℕ) (p : ℕ) (ann : Annotation) (A : Sort) (st st' : State) : Type 0 where
   pub making : Making l ps ps' st st'
   pub goes : (a : Arity) (k : Prog a) → Goes (annotated p (ctx_of l ps work st.context) (saying l ps ann) (reads l ps A) k) st k st'
@@ -102,7 +102,7 @@ AgreedAs l ps work ps' p ann A st (agreed.On st') = AgreedOn l ps work ps' p ann
 AgreedAs l ps work ps' p ann A st (agreed.Refused r) =
     (a : Arity) (k : Prog a) → Stops (annotated p (ctx_of l ps work st.context) (saying l ps ann) (reads l ps A) k) st r
 
-__ THE FUNCTION p OPENED, after its serial i was made: k goes on from the rule's number, the parameter's type and the body's proposition
+-- THE FUNCTION p OPENED, after its serial i was made: k goes on from the rule's number, the parameter's type and the body's proposition
 pub record OpenedTo (l ps ps' : List ℕ) (p : ℕ) (E : Sort) (i : ℕ) (st : State) (rule : ℕ) (A : Sort) (b : ℕ) (st' : State) : Type 0 where
   pub parameter : Ty
   pub body : Prop
@@ -115,7 +115,7 @@ abbrev pub OpenedAs : (l ps ps' : List ℕ) → ℕ → Sort → ℕ → State �
 OpenedAs l ps ps' p E i st (opened.Body rule A b st') = OpenedTo l ps ps' p E i st rule A b.0 st'
 OpenedAs l ps ps' p E i st (opened.Refused r) = (a : Arity) (k : ℕ → Ty → Prop → Prog a) → Stops (opening p i (reads l ps E) k) st r
 
-__ AN OBJECT, the term t: k goes on from its serial
+-- AN OBJECT, the term t: k goes on from its serial
 abbrev pub objects : (l ps work : List ℕ) → Want → (t : ℕ) → State → {a : Arity} → (ℕ → Prog (more a)) → Prog (more a)
 objects l ps work w t st k = objected (number_of w 13 24) (number_of w 10 20) t (ctx_of l ps work st.context) k
 
@@ -125,7 +125,7 @@ ObjectAs l ps work w t st (object.Known s) =
 ObjectAs l ps work w t st (object.Refused r) =
     (a : Arity) (k : ℕ → Prog (more a)) → StopsAt (ident_name (term_at l t)) (objects l ps work w t st k) st r
 
-__ A LET OPENED at a head of type H: k goes on from the two serials, the datatype and the Exists' body with the first serial put in
+-- A LET OPENED at a head of type H: k goes on from the two serials, the datatype and the Exists' body with the first serial put in
 pub record LetEntered (l ps work ps' work' : List ℕ) (x y : ℕ) (w : Want) (H : Sort) (p head : ℕ) (st st' : State) : Type 0 where
   pub datatype : ℕ
   pub body : Prop
@@ -150,7 +150,7 @@ EnteredAs l ps work ps' work' x y w H p head st (entered.In st') = LetEntered l 
 EnteredAs l ps work ps' work' x y w H p head st (entered.Refused r) =
     (a : Arity) (k : ℕ → ℕ → ℕ → Prop → Prog a) → Stops (let_opening (number_of w 12 22) p head (reads l ps H) k) st r
 
-__ A LET CLOSED, whose body is p: the witness i does not stay in the type
+-- A LET CLOSED, whose body is p: the witness i does not stay in the type
 abbrev pub closes : (l ps : List ℕ) → Want → (p i : ℕ) → Sort → {a : Arity} → Prog a → Prog a
 closes l ps w p i T k = closing (number_of w 13 24) (number_of w 16 27) p i (reads l ps T) k
 
@@ -158,7 +158,7 @@ abbrev pub ClosedAs : (l ps : List ℕ) → Want → (p i : ℕ) → Sort → St
 ClosedAs l ps w p i T st closed.Shut = (a : Arity) (k : Prog a) → Goes (closes l ps w p i T k) st k st
 ClosedAs l ps w p i T st (closed.Refused r) = (a : Arity) (k : Prog a) → Stops (closes l ps w p i T k) st r
 
-__ THE CONCLUSION of the function p, from the type of its parameter x, whose serial is i, and the proposition of its body
+-- THE CONCLUSION of the function p, from the type of its parameter x, whose serial is i, and the proposition of its body
 pub record AbstractedTo (l ps ps' : List ℕ) (p x i : ℕ) (A : Sort) (b : ℕ) (st : State) (rule m : ℕ) (st' : State) : Type 0 where
   pub whole : Prop
   pub stands : Stands l ps' (count_of l st') (sort.Proposition (record { 0 = m })) (prop whole)

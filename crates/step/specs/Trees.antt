@@ -1,4 +1,4 @@
-__ Document 01, "Tree, goals, filling": the records of a proof tree and of its goals, and which bytes hold a given tree. Assumes nothing.
+-- Document 01, "Tree, goals, filling": the records of a proof tree and of its goals, and which bytes hold a given tree. Assumes nothing.
 use Rattle.std.specs.Prelude.{◌≡◌, List, [], ◌∷◌, ℕ, zero, ◌+◌, ◌*◌, ◌<◌, length, get_or}
 use Rattle.numbers.specs.declared.Sort.{Sort}
 use Rattle.numbers.specs.declared.record.Record.{Record}
@@ -10,12 +10,12 @@ use Rattle.step.specs.declared.node.Goal.{Goal}
 use Rattle.step.specs.declared.node.NodeRecord.{NodeRecord}
 use Rattle.step.specs.Rooms.{Rooms, Stands}
 
-__ A TREE RECORD: rule, tag, term, proposition or datatype, two serials, premises, zeros
+-- A TREE RECORD: rule, tag, term, proposition or datatype, two serials, premises, zeros
 abbrev pub node_rec : (rule term : ℕ) → Sort → (first second premises : ℕ) → Record
 node_rec rule k T i j n =
     record { kind = rule; count = tag_of T; a = k; b = number_of T; c = i; parameters = j ∷ n ∷ 0 ∷ 0 ∷ [] }
 
-__ what any record says as a node; and node n of a room
+-- what any record says as a node; and node n of a room
 abbrev pub as_node : Record → NodeRecord
 as_node r =
     record {
@@ -30,14 +30,14 @@ as_node r =
 abbrev pub node_at : List ℕ → ℕ → NodeRecord
 node_at w n = as_node (record_at w n)
 
-__ its serials, where there are some
+-- its serials, where there are some
 abbrev pub first_serial : List ℕ → ℕ
 first_serial is = get_or is 0 none
 
 abbrev pub second_serial : List ℕ → ℕ
 second_serial is = get_or is 1 none
 
-__ A GOAL RECORD: term, proposition, context length, zero, 16 bits each
+-- A GOAL RECORD: term, proposition, context length, zero, 16 bits each
 unfoldable pub goal_at : List ℕ → ℕ → Goal
 goal_at w i =
     record {
@@ -53,26 +53,26 @@ goal_rec k T n = record { term = record { 0 = k }; proposition = record { 0 = nu
 abbrev pub SameGoals : ℕ → List ℕ → List ℕ → Type 0
 SameGoals n old new = (i : ℕ) → i < n → goal_at new i ≡ goal_at old i
 
-__ `new` is `old` with the goal g at number n
+-- `new` is `old` with the goal g at number n
 pub record PutGoal (old : List ℕ) (n : ℕ) (g : Goal) (new : List ℕ) : Type 0 where
   pub here : goal_at new n ≡ g
   pub size : length new ≡ length old
   pub others : (m : ℕ) → (m ≡ n → ⊥) → goal_at new m ≡ goal_at old m
 
-__ THE TREE IN ITS ROOM. Record n is this node, over so many premises; the conclusion's number is among the first c propositions
+-- THE TREE IN ITS ROOM. Record n is this node, over so many premises; the conclusion's number is among the first c propositions
 pub record NodeIs (l : List ℕ) (R : Rooms) (c n : ℕ) (nd : Node) (premises : ℕ) : Type 0 where
   pub typ : Sort
   pub stands : Stands l R.props c typ nd.concludes
   pub is : record_at R.tree n ≡ node_rec nd.rule nd.term typ (first_serial nd.serials) (second_serial nd.serials) premises
 
-__ record n and goal m are this gap: a Sorry leaf (rule 15) and what it wants
+-- record n and goal m are this gap: a Sorry leaf (rule 15) and what it wants
 pub record GapIs (l : List ℕ) (R : Rooms) (c n m : ℕ) (g : Gap) : Type 0 where
   pub typ : Sort
   pub stands : Stands l R.props c typ g.wanted
   pub leaf : record_at R.tree n ≡ node_rec 15 g.term typ none none 0
   pub goal : goal_at R.goals m ≡ goal_rec g.term typ (length g.ctx)
 
-__ from record n and goal m on stand these trees, each parent before its premises
+-- from record n and goal m on stand these trees, each parent before its premises
 unfoldable pub TreesAre : (l : List ℕ) → Rooms → (c n m : ℕ) → Trees → Type 0
 TreesAre l R c n m end = Unit {0}
 TreesAre l R c n m (gap g ts) = GapIs l R c n m g × TreesAre l R c (n + 1) (m + 1) ts

@@ -1,4 +1,4 @@
-__ A rule under way: some of its children have answered, and the rest of its program is still to be obeyed. Assumes nothing.
+-- A rule under way: some of its children have answered, and the rest of its program is still to be obeyed. Assumes nothing.
 use Rattle.std.specs.Prelude.{◌≡◌, List, ℕ, ◌+◌, ◌*◌, ◌≤◌}
 use Rattle.rules.specs.State.{limit}
 use Rattle.rules.specs.Tree.{Trees, ◌⊕◌, records, holes, width}
@@ -9,16 +9,16 @@ use Rattle.step.specs.declared.state.State.{State}
 use Rattle.step.specs.Rooms.{Rooms, st_of, inner}
 use Rattle.step.specs.Contract.{Left, run_of}
 
-__ the trees of the children that have answered stand before the others'
+-- the trees of the children that have answered stand before the others'
 abbrev pub after : Trees → Steps → Steps
 after ts r = record { ty = r.ty; nodes = r.nodes; premises = ts ⊕ r.premises }
 
-__ what the rule answers, once the rest of its program answers o
+-- what the rule answers, once the rest of its program answers o
 unfoldable pub rest : Mode → Trees → Out Steps → Out Answer
 rest w ts o = then o (λ r st. finish w (after ts r) st)
 
-__ term k was begun in the rooms R₀ at st₀; now the rooms are R, the counts st, and the program q is left, for the children ks. The trees of its children stand
-__ after the record that is kept for its own node. The children have `used` nodes, `own` serials were made beside theirs, and there are `wide` of them
+-- term k was begun in the rooms R₀ at st₀; now the rooms are R, the counts st, and the program q is left, for the children ks. The trees of its children stand
+-- after the record that is kept for its own node. The children have `used` nodes, `own` serials were made beside theirs, and there are `wide` of them
 pub record Doing (l : List ℕ) (R₀ : Rooms) (k : ℕ) (w : Mode) (st₀ : State) (R : Rooms) (st : State)
     {a : Arity} (q : Prog a) (ks : Kids a) (used own wide : ℕ) : Type 0 where
   pub trees : Trees

@@ -1,5 +1,5 @@
-__ The nearest quantifiers above: how the code writes them into the work room, how it looks a name up along them, and test 7.
-__ Assumes nothing.
+-- The nearest quantifiers above: how the code writes them into the work room, how it looks a name up along them, and test 7.
+-- Assumes nothing.
 use mathlib.Core.Path.{◌≡◌, refl, ap, ap₂, sym, ◌∙◌, subst, subst₂, subst⁻¹}
 use mathlib.Core.Bool.{Bool, true, false, ◌&&◌, ◌||◌, not, cond, and-true}
 use mathlib.Core.List.{List, [], ◌∷◌, map}
@@ -37,7 +37,7 @@ use Rattle.table.proofs.Links.{directed, child_below, parent_above, expected_in}
 use Rattle.table.proofs.Reading.{nearest_child, nearest_root, binders_none, binders_at}
 use Rattle.table.proofs.Sizes.{closed_none, closed_one, closed_two}
 
-__ THE EMPTY ROOM, word by word
+-- THE EMPTY ROOM, word by word
 pub vacant_start : (w : List ℕ) → Vacant 0 w w
 vacant_start w = record { size = refl; each = λ m k. absurd (omega arith) }
 
@@ -53,7 +53,7 @@ vacant_step n p w v u h k b e =
 pub vacant_end : (n p : ℕ) (w v : List ℕ) → Vacant n w v → p ≤ n → Vacant p w v
 vacant_end n p w v h k = record { size = h.size; each = λ m x. h.each m (omega arith) }
 
-__ ONE LINK, not used or used
+-- ONE LINK, not used or used
 pub noted_not : (used : Bool) (m q : ℕ) (w : List ℕ) → used ≡ false → Noted used m q w w
 noted_not used m q w e = record { size = refl; here = λ t. absurd (let z : ◌≡◌ {A = ℕ} 0 1 = cc in omega arith); others = λ n d. refl }
 
@@ -66,7 +66,7 @@ noted_put used m q w v t k e =
       others = λ n d. let x : n ≡ m → ⊥ = d t in word_far w (2 * m) q (2 * n) (omega arith) (omega arith) (omega arith);
     }
 
-__ A RECORD'S CHILDREN: the body, or the left and the right one
+-- A RECORD'S CHILDREN: the body, or the left and the right one
 body_hit : (k : ℕ) (r : Record) → eqb k 1 ≡ true → 0 < hits r.c (prop_children k r)
 unfolding prop_children
 body_hit zero r e = absurd (omega (arith, eqb-true 0 1 e))
@@ -85,7 +85,7 @@ right_hit zero r e = absurd (omega (arith, ltb-true 1 0 e))
 right_hit (suc zero) r e = absurd (omega (arith, ltb-true 1 1 e))
 right_hit (suc (suc k)) r e = hit_later r.b r.a (r.b ∷ []) (hit_here r.b [])
 
-__ the words that the code writes for them
+-- the words that the code writes for them
 module _ (r : Record) (n q : ℕ) (w w₁ w₂ w₃ : List ℕ) where
   noted_child : (k : ℕ) → Noted (eqb k 1) r.c n w w₁ → Noted (ltb 1 k) r.a q w₁ w₂ → Noted (ltb 1 k) r.b q w₂ w₃
       → (m : ℕ) → 0 < hits m (prop_children k r) → word_at w₃ (2 * m) ≡ cond (eqb k 1) n q
@@ -133,15 +133,15 @@ module _ (r : Record) (s : PropShape) (shape : s ≡ prop_shape (prop_kind r.kin
   linked_so i = subst (λ s. 0 < hits i (prop_children s.children r)) shape
 
   module _ (n : ℕ) (w : List ℕ) (fit : ChildrenFit r n w) where
-    pub body-fits : eqb s.children 1 ≡ true → 2 * r.c + 1 < length w
-    body-fits t = fit.child r.c (linked_so r.c (body_hit s.children r t))
+    pub body_fits : eqb s.children 1 ≡ true → 2 * r.c + 1 < length w
+    body_fits t = fit.child r.c (linked_so r.c (body_hit s.children r t))
 
     module _ (w₁ : List ℕ) (body : Noted (eqb s.children 1) r.c n w w₁) where
-      pub left-fits : ltb 1 s.children ≡ true → 2 * r.a + 1 < length w₁
-      left-fits t = omega (arith, fit.child r.a (linked_so r.a (left_hit s.children r t)), body.size)
+      pub left_fits : ltb 1 s.children ≡ true → 2 * r.a + 1 < length w₁
+      left_fits t = omega (arith, fit.child r.a (linked_so r.a (left_hit s.children r t)), body.size)
 
-      pub right-fits : (q : ℕ) (w₂ : List ℕ) → Noted (ltb 1 s.children) r.a q w₁ w₂ → ltb 1 s.children ≡ true → 2 * r.b + 1 < length w₂
-      right-fits q w₂ left t = omega (arith, fit.child r.b (linked_so r.b (right_hit s.children r t)), body.size, left.size)
+      pub right_fits : (q : ℕ) (w₂ : List ℕ) → Noted (ltb 1 s.children) r.a q w₁ w₂ → ltb 1 s.children ≡ true → 2 * r.b + 1 < length w₂
+      right_fits q w₂ left t = omega (arith, fit.child r.b (linked_so r.b (right_hit s.children r t)), body.size, left.size)
 
   pub children_noted : (n q : ℕ) (w w₁ w₂ w₃ : List ℕ) → q ≡ word_at w (2 * n)
       → Noted (eqb s.children 1) r.c n w w₁ → Noted (ltb 1 s.children) r.a q w₁ w₂ → Noted (ltb 1 s.children) r.b q w₂ w₃ → ChildrenNoted r n w w₃
@@ -152,13 +152,13 @@ module _ (r : Record) (s : PropShape) (shape : s ≡ prop_shape (prop_kind r.kin
         others = subst (λ s. (m : ℕ) → hits m (prop_children s.children r) ≡ 0 → word_at w₃ (2 * m) ≡ word_at w (2 * m)) shape (noted_other r n q w w₁ w₂ w₃ s.children body left right);
       }
 
-__ ALL RECORDS, from the largest number down. The room is right of each record whose parent, if it has one, is not below n
+-- ALL RECORDS, from the largest number down. The room is right of each record whose parent, if it has one, is not below n
 pub record Descent (l : List ℕ) (n : ℕ) (old w : List ℕ) : Type 0 where
   pub size : length w ≡ length old
   pub within : n ≤ props l
   pub right : (m : ℕ) → m < props l → ((j : ℕ) → parent l m ≡ At j → n ≤ j) → word_at w (2 * m) ≡ marked (nearest l m)
 
-__ a kind with one child is a quantifier
+-- a kind with one child is a quantifier
 marked_nearer : (K : PropKind) (n : ℕ) (g : Guilty) → marked (nearer K n g) ≡ cond (eqb (prop_shape K).children 1) n (marked g)
 unfolding nearer prop_shape
 marked_nearer (constant b) n g = refl
@@ -176,20 +176,20 @@ module _ {l : List ℕ} (h : WellLinked l) where
       at m k above Nobody d = empty.each m (omega arith) ∙ ap marked (sym (nearest_root (directed h.linked) m d))
 
   module _ (n : ℕ) (old w : List ℕ) (d : Descent l n old w) where
-    pub descent-end : n ≤ 0 → Above l w
-    descent-end z m k = d.right m k (λ j e. omega arith)
+    pub descent_end : n ≤ 0 → Above l w
+    descent_end z m k = d.right m k (λ j e. omega arith)
 
     module _ (pos : 0 < n) (r : Record) (e : r ≡ prop_record l (n - 1)) where
       abbrev children : List ℕ
       children = prop_links (prop_record l (n - 1))
 
-      pub descent-fits : (p : ℕ) (room : List ℕ) → Counted l → Vacant p room old → test_room ≤ length room → ChildrenFit r (n - 1) w
-      descent-fits p room c empty long =
+      pub descent_fits : (p : ℕ) (room : List ℕ) → Counted l → Vacant p room old → test_room ≤ length room → ChildrenFit r (n - 1) w
+      descent_fits p room c empty long =
           subst⁻¹ (λ r. ChildrenFit r (n - 1) w) e
           record { self = omega arith; child = λ m x. omega (arith, child_below (directed h.linked) (n - 1) m (omega arith) x) }
 
-      pub descent-step : (v : List ℕ) → ChildrenNoted r (n - 1) w v → Descent l (n - 1) old v
-      descent-step v noted =
+      pub descent_step : (v : List ℕ) → ChildrenNoted r (n - 1) w v → Descent l (n - 1) old v
+      descent_step v noted =
           record {
             size = noted.size ∙ d.size;
             within = omega arith;
@@ -202,7 +202,7 @@ module _ {l : List ℕ} (h : WellLinked l) where
           here : n - 1 < props l
           here = omega arith
 
-          __ its own parent has a larger number
+          -- its own parent has a larger number
           own : word_at w (2 * (n - 1)) ≡ marked (nearest l (n - 1))
           own = d.right (n - 1) here (λ j q. omega (arith, (parent_above (directed h.linked) j (n - 1) q).2))
 
@@ -217,17 +217,17 @@ module _ {l : List ℕ} (h : WellLinked l) where
               ∙ ap (cond (eqb (prop_shape (prop_kind (prop_record l (n - 1)).kind)).children 1) (n - 1)) own
               ∙ sym (ap marked (nearest_child h.linked (n - 1) m here x) ∙ marked_nearer (prop_kind (prop_record l (n - 1)).kind) (n - 1) (nearest l (n - 1)))
 
-__ A NAME looked up along the room. The objects of the quantifiers from q upwards
+-- A NAME looked up along the room. The objects of the quantifiers from q upwards
 abbrev chain : List ℕ → ℕ → List ℕ
 chain l q = cond (eqb q none) [] ((prop_record l q).a ∷ binders l q)
 
-__ looked for from q on, k quantifiers passed, the name x is what it is from the start
+-- looked for from q on, k quantifiers passed, the name x is what it is from the start
 pub record Climb (l : List ℕ) (x start k q : ℕ) : Type 0 where
   pub same : settled x 0 (chain l start) ≡ settled x k (chain l q)
   pub stands : (q ≡ none → ⊥) → (k ≤ q) × (q < props l)
 
 module _ {l : List ℕ} (c : Counted l) (h : WellLinked l) (w : List ℕ) (above : Above l w) where
-  __ the word of record n leads to what is above n
+  -- the word of record n leads to what is above n
   up : (n q : ℕ) → n < props l → q ≡ word_at w (2 * n) → (chain l q ≡ binders l n) × ((q ≡ none → ⊥) → (n < q) × (q < props l))
   up n q k e = at (nearest l n) refl
     where
@@ -241,33 +241,33 @@ module _ {l : List ℕ} (c : Counted l) (h : WellLinked l) (w : List ℕ) (above
           (rw (ne_eqb q none (omega (arith, c.propositions))) (ap (λ i. (prop_record l i).a ∷ binders l i) z ∙ sym b.2), λ x. (omega arith, omega arith))
 
   module _ (n start : ℕ) (inside : n < props l) (first : start ≡ word_at w (2 * n)) where
-    pub climb-start : (x : ℕ) → Climb l x start 0 start
-    climb-start x = record { same = refl; stands = λ d. let b = (up n start inside first).1 d in (omega arith, b.1) }
+    pub climb_start : (x : ℕ) → Climb l x start 0 start
+    climb_start x = record { same = refl; stands = λ d. let b = (up n start inside first).1 d in (omega arith, b.1) }
 
     module _ (x k q : ℕ) (so : Climb l x start k q) where
-      from-here : settled x 0 (binders l n) ≡ settled x k (chain l q)
-      from-here = ap (settled x 0) (sym (up n start inside first).0) ∙ so.same
+      from_here : settled x 0 (binders l n) ≡ settled x k (chain l q)
+      from_here = ap (settled x 0) (sym (up n start inside first).0) ∙ so.same
 
-      pub climb-end : q ≡ none → free x ≡ settled x 0 (binders l n)
+      pub climb_end : q ≡ none → free x ≡ settled x 0 (binders l n)
       unfolding settled
-      climb-end e = sym (from-here ∙ rw (eq-eqb q none e))
+      climb_end e = sym (from_here ∙ rw (eq-eqb q none e))
 
       module _ (on : q ≡ none → ⊥) (r : Record) (e : r ≡ prop_record l q) where
-        pub climb-found : r.a ≡ x → bound k ≡ settled x 0 (binders l n)
+        pub climb_found : r.a ≡ x → bound k ≡ settled x 0 (binders l n)
         unfolding settled
-        climb-found y = sym (from-here ∙ rw (ne_eqb q none on, eq-eqb x (prop_record l q).a (sym y ∙ ap (λ (r : Record). r.a) e)))
+        climb_found y = sym (from_here ∙ rw (ne_eqb q none on, eq-eqb x (prop_record l q).a (sym y ∙ ap (λ (r : Record). r.a) e)))
 
         module _ (y : r.a ≡ x → ⊥) (q' : ℕ) (next : q' ≡ word_at w (2 * q)) where
-          pub climb-falls : props l - q' < props l - q
-          climb-falls = at (eqb q' none) refl (so.stands on).1
+          pub climb_falls : props l - q' < props l - q
+          climb_falls = at (eqb q' none) refl (so.stands on).1
             where
               at : (b : Bool) → eqb q' none ≡ b → q < props l → props l - q' < props l - q
               at true t b = omega (arith, eqb-true q' none t, c.propositions)
               at false t b = omega (arith, (up q q' b next).1 (eqb-false q' none t))
 
-          pub climb-step : Climb l x start (k + 1) q'
+          pub climb_step : Climb l x start (k + 1) q'
           unfolding settled
-          climb-step =
+          climb_step =
               let b = so.stands on in
               let u = up q q' b.1 next in
               record {
@@ -275,7 +275,7 @@ module _ {l : List ℕ} (c : Counted l) (h : WellLinked l) (w : List ℕ) (above
                 stands = λ d. let v = u.1 d in (omega arith, v.1);
               }
 
-__ TEST 7. One parameter, as it was settled
+-- TEST 7. One parameter, as it was settled
 pub free_found : (used : Bool) (x : ℕ) (o : Settled) (P : Param) → used ≡ true → o ≡ Free → param_of x o ≡ P → false ≡ not used || named_not P
 unfolding named_not
 free_found used x o P t f e = let q : P ≡ free x = sym e ∙ ap (param_of x) f in rw (t, q)
@@ -284,7 +284,7 @@ pub bound_found : (used : Bool) (x k : ℕ) (o : Settled) (P : Param) → used �
 unfolding named_not
 bound_found used x k o P t f e = let q : P ≡ bound k = sym e ∙ ap (param_of x) f in rw (t, q)
 
-__ all four, of which the first k are used
+-- all four, of which the first k are used
 params_bound : (g : ℕ → Param) (k : ℕ) (xs : List ℕ) → length xs ≡ 4
     → (not (ltb 0 k) || named_not (g (get_or xs 0 0)))
     && ((not (ltb 1 k) || named_not (g (get_or xs 1 0))) && ((not (ltb 2 k) || named_not (g (get_or xs 2 0))) && (not (ltb 3 k) || named_not (g (get_or xs 3 0)))))
@@ -315,7 +315,7 @@ pub all_params : (l : List ℕ) (n : ℕ) (r : Record) (b₀ b₁ b₂ b₃ : Bo
 all_params l n r b₀ b₁ b₂ b₃ four e₀ e₁ e₂ e₃ =
     (λ i. e₀ i && (e₁ i && (e₂ i && e₃ i))) ∙ params_bound (λ x. settled x 0 (binders l n)) r.count r.parameters four
 
-__ a record, from its children's answers
+-- a record, from its children's answers
 module _ {l : List ℕ} (h : WellLinked l) (n : ℕ) (inside : n < props l) (r : Record) (e : r ≡ prop_record l n)
     (s : PropShape) (shape : s ≡ prop_shape (prop_kind r.kind)) where
   children_are : s.children ≡ (prop_shape (prop_kind (prop_record l n).kind)).children
@@ -341,29 +341,29 @@ module _ {l : List ℕ} (h : WellLinked l) (n : ℕ) (inside : n < props l) (r :
     pub left_below : r.a < n
     left_below = child_in r.a (left_hit s.children r (lt-ltb 1 s.children two))
 
-    pub right-below : r.b < n
-    right-below = child_in r.b (right_hit s.children r (lt-ltb 1 s.children two))
+    pub right_below : r.b < n
+    right_below = child_in r.b (right_hit s.children r (lt-ltb 1 s.children two))
 
-    pub shut-two : (a b : Bool) → a ≡ closed (prop_at l r.a) → b ≡ closed (prop_at l r.b) → a && b ≡ closed (prop_at l n)
-    shut-two a b p q =
+    pub shut_two : (a b : Bool) → a ≡ closed (prop_at l r.a) → b ≡ closed (prop_at l r.b) → a && b ≡ closed (prop_at l n)
+    shut_two a b p q =
         ap₂ ◌&&◌ p q
         ∙ ap (λ (r : Record). closed (prop_at l r.a) && closed (prop_at l r.b)) e
         ∙ sym (closed_two h.linked n inside (subst (λ k. 1 < k) children_are two))
 
-__ the whole test
+-- the whole test
 module _ (l : List ℕ) (p : Purpose) where
   pub no_goal : p ≡ Filling → Nobody ≡ open_goal p l
   unfolding open_goal
   no_goal q = rw q
 
   module _ (q : p ≡ Check) (goal : ℕ) (e : goal ≡ expected l) where
-    pub goal-in : Linked p l → goal < props l
-    goal-in h = subst⁻¹ (λ i. i < props l) e (expected_in (subst (λ p. Linked p l) q h))
+    pub goal_in : Linked p l → goal < props l
+    goal_in h = subst⁻¹ (λ i. i < props l) e (expected_in (subst (λ p. Linked p l) q h))
 
-    pub goal-shut : (b : Bool) → b ≡ closed (prop_at l goal) → b ≡ true → Nobody ≡ open_goal p l
+    pub goal_shut : (b : Bool) → b ≡ closed (prop_at l goal) → b ≡ true → Nobody ≡ open_goal p l
     unfolding open_goal
-    goal-shut b x t = let z : closed (prop_at l (expected l)) ≡ true = ap (λ i. closed (prop_at l i)) (sym e) ∙ sym x ∙ t in rw (q, z)
+    goal_shut b x t = let z : closed (prop_at l (expected l)) ≡ true = ap (λ i. closed (prop_at l i)) (sym e) ∙ sym x ∙ t in rw (q, z)
 
-    pub goal-open : (b : Bool) → b ≡ closed (prop_at l goal) → b ≡ false → At goal ≡ open_goal p l
+    pub goal_open : (b : Bool) → b ≡ closed (prop_at l goal) → b ≡ false → At goal ≡ open_goal p l
     unfolding open_goal
-    goal-open b x t = let z : closed (prop_at l (expected l)) ≡ false = ap (λ i. closed (prop_at l i)) (sym e) ∙ sym x ∙ t in rw (q, z, e)
+    goal_open b x t = let z : closed (prop_at l (expected l)) ≡ false = ap (λ i. closed (prop_at l i)) (sym e) ∙ sym x ∙ t in rw (q, z, e)

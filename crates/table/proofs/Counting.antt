@@ -1,5 +1,5 @@
-__ Where each number but 0 is named once, what is counted at 0 is counted once for each record. So the root's term has every record's node once.
-__ Assumes nothing.
+-- Where each number but 0 is named once, what is counted at 0 is counted once for each record. So the root's term has every record's node once.
+-- Assumes nothing.
 use mathlib.Core.Path.{◌≡◌, refl, ap, ap₂, sym, ◌∙◌}
 use mathlib.Core.Bool.{Bool, true, false, cond}
 use mathlib.Core.List.{List, [], ◌∷◌}
@@ -21,7 +21,7 @@ use Rattle.table.proofs.Sums.{sum_same, sum_add, sum_zero, hit_here, hit_later}
 use Rattle.table.proofs.Links.{directed, term_child, term_once, root_never}
 use Rattle.table.proofs.Reading.{is_gap, View, view_leaf, view_single, view_double, view_triple, view_gap, term_view}
 
-__ a sum over a list
+-- a sum over a list
 unfoldable pub over : (ℕ → ℕ) → List ℕ → ℕ
 over f [] = 0
 over f (c ∷ cs) = f c + over f cs
@@ -29,7 +29,7 @@ over f (c ∷ cs) = f c + over f cs
 abbrev bit : Bool → ℕ
 bit b = cond b 1 0
 
-__ SUMS OF SUMS
+-- SUMS OF SUMS
 sum_scale : (k : ℕ) (f : ℕ → ℕ) (n : ℕ) → sum (λ i. k * f i) n ≡ k * sum f n
 unfolding sum
 sum_scale k f zero = sym (mul-zero k)
@@ -40,7 +40,7 @@ unfolding sum
 sum_swap f zero m = sym (sum_zero (λ j. 0) m (λ j k. refl))
 sum_swap f (suc n) m = omega (arith, sum_swap f n m, sum_add (f n) (λ j. sum (λ i. f i j) n) m)
 
-__ one number of all
+-- one number of all
 sum_past : (f : ℕ → ℕ) (c n : ℕ) → n ≤ c → sum (λ j. f j * bit (eqb c j)) n ≡ 0
 sum_past f c n h = sum_zero (λ j. f j * bit (eqb c j)) n (λ j k. rw (ne_eqb c j (omega arith)) (mul-zero (f j)))
 
@@ -56,7 +56,7 @@ sum_point f c (suc n) h = at (eq-or-lt_of_le (omega arith)) (sum_point f c n)
         omega (arith, sum_past f c n (omega arith))
     at (inr l) rest = let a : f n * bit (eqb c n) ≡ 0 = rw (ne_eqb c n (omega arith)) (mul-zero (f n)) in omega (arith, rest l)
 
-__ a sum over a list of numbers below n is one over all of them, each as often as it stands there
+-- a sum over a list of numbers below n is one over all of them, each as often as it stands there
 over_hits : (f : ℕ → ℕ) (n : ℕ) (cs : List ℕ) → ((c : ℕ) → 0 < hits c cs → c < n) → over f cs ≡ sum (λ j. f j * hits j cs) n
 unfolding over hits
 over_hits f n [] h = sym (sum_zero (λ j. f j * 0) n (λ j k. mul-zero (f j)))
@@ -64,7 +64,7 @@ over_hits f n (c ∷ cs) h =
     ap₂ ◌+◌ (sym (sum_point f c n (h c (hit_here c cs)))) (over_hits f n cs (λ d x. h d (hit_later d c cs x)))
     ∙ sym (sum_add (λ j. f j * bit (eqb c j)) (λ j. f j * hits j cs) n) ∙ sum_same _ _ n (λ j k. sym (mul-add (f j) (bit (eqb c j)) (hits j cs)))
 
-__ all but the first, once each
+-- all but the first, once each
 but_first : (f g : ℕ → ℕ) (n : ℕ) → 0 < n → g 0 ≡ 0 → ((j : ℕ) → 0 < j → j < n → g j ≡ 1) → f 0 + sum (λ j. f j * g j) n ≡ sum f n
 unfolding sum
 but_first f g zero h z o = absurd (omega arith)
@@ -73,7 +73,7 @@ but_first f g (suc (suc n)) h z o =
     let e : f (suc n) * g (suc n) ≡ f (suc n) = rw (o (suc n) (omega arith) (omega arith)) (mul-one (f (suc n))) in
     omega (arith, but_first f g (suc n) (omega arith) z (λ j l k. o j l (omega arith)))
 
-__ THE COUNT at 0 of what every record has (w) and its children count
+-- THE COUNT at 0 of what every record has (w) and its children count
 pub count_root : (links : ℕ → List ℕ) (f w : ℕ → ℕ) (n : ℕ) → 0 < n → ((t : ℕ) → t < n → f t ≡ w t + over f (links t))
     → ((t c : ℕ) → t < n → 0 < hits c (links t) → c < n) → sum (λ t. hits 0 (links t)) n ≡ 0 → ((c : ℕ) → 0 < c → c < n → sum (λ t. hits c (links t)) n ≡ 1) → f 0 ≡ sum w n
 count_root links f w n pos step inside never once =
@@ -83,7 +83,7 @@ count_root links f w n pos step inside never once =
     sum_swap (λ t c. f c * hits c (links t)) n n ∙ sum_same _ _ n (λ c k. sum_scale (f c) (λ t. hits c (links t)) n) in
     omega (arith, but_first f (λ c. sum (λ t. hits c (links t)) n) n pos never once)
 
-__ THE NODES of a term
+-- THE NODES of a term
 module _ {t : ℕ} {A : Option Ty} {sub : ℕ → Term} where
   nodes_view : {g : Bool} {cs : List ℕ} {u : Term} → View t A sub g cs u → nodes u ≡ 1 + over (λ c. nodes (sub c)) cs
   unfolding nodes over
@@ -149,12 +149,12 @@ module _ {p : Purpose} {l : List ℕ} (f : Formed l) (h : Linked p l) (pos : 0 <
       root_count (λ t. gaps q (term_at l t)) (λ t. bit (sorry_at t) * bit (eqb t q)) (λ t k. gaps_view q (term_view f (directed h) t k))
       ∙ sum_same _ _ (terms l) (λ t k. ap (λ b. bit (sorry_at t) * bit b) (eqb_swap t q))
 
-  __ a Sorry record is one gap
+  -- a Sorry record is one gap
   pub gaps_one : (q : ℕ) → q < terms l → kind_of (term_record l q).kind ≡ Sorry → gaps q (term_at l 0) ≡ 1
   unfolding is_gap
   gaps_one q k e = gaps_sum q ∙ sum_point (λ t. bit (sorry_at t)) q (terms l) k ∙ ap (λ K. bit (is_gap K)) e
 
-  __ and no other number is
+  -- and no other number is
   pub gaps_none : (q : ℕ) → (q < terms l → kind_of (term_record l q).kind ≡ Sorry → ⊥) → gaps q (term_at l 0) ≡ 0
   gaps_none q e = at (ltb q (terms l)) refl
     where

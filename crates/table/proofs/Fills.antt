@@ -1,5 +1,5 @@
-__ Demand 3 of the rules applies to every passing table: the number of a goal's Sorry record is that of one gap in the table's term.
-__ Assumes nothing.
+-- Demand 3 of the rules applies to every passing table: the number of a goal's Sorry record is that of one gap in the table's term.
+-- Assumes nothing.
 use mathlib.Core.Path.{◌≡◌, refl}
 use mathlib.Core.Bool.{Bool, true, false}
 use mathlib.Core.Logic.{◌⊎◌, inl, inr}
@@ -25,7 +25,7 @@ use Rattle.table.specs.Passing.{Good}
 use Rattle.table.proofs.Counting.{gaps_one, gaps_none}
 use Rattle.table.proofs.Passing.{good_passed, prop_old}
 
-__ a gap that stands in a tree is counted there
+-- a gap that stands in a tree is counted there
 counted_there : {g : Gap} {ts : Trees} → At g ts → 1 ≤ tally g.term ts
 unfolding tally
 counted_there {g} here = rw (eq-eqb g.term g.term refl) (omega arith)
@@ -53,7 +53,7 @@ sorry_or_not TypeAscription = inr (λ e. let z : ◌≡◌ {A = ℕ} 0 1 = cc in
 sorry_or_not Sorry = inl refl
 sorry_or_not Strange = inr (λ e. let z : ◌≡◌ {A = ℕ} 0 1 = cc in omega arith)
 
-__ a number that is some gap's is a Sorry record's, and one gap's
+-- a number that is some gap's is a Sorry record's, and one gap's
 sorry_of : (l : List ℕ) (q : ℕ) → Good Check l → 1 ≤ gaps q (term_at l 0) → (q < terms l) × (kind_of (term_record l q).kind ≡ Sorry)
 sorry_of l q good some = at (ltb q (terms l)) refl (sorry_or_not (kind_of (term_record l q).kind))
   where
@@ -73,16 +73,16 @@ one_gap l q good some =
     let s = sorry_of l q good some in
     gaps_one r.formed r.linked r.counted.some q s.0 s.1
 
-__ A GOAL of a passing table's run stands at a gap of its term
+-- A GOAL of a passing table's run stands at a gap of its term
 goal_seen : (l : List ℕ) (a : Answer) (st : St) → run (term_at l 0) (check (prop (prop_at l (expected l)))) [] start ≡ ok a st → (g : Gap) → At g a.tree → 1 ≤ gaps g.term (term_at l 0)
 goal_seen l a st accepted g p = omega (arith, counted_there p, rw accepted at (tally_run g.term (term_at l 0) (check (prop (prop_at l (expected l)))) [] start))
 
-__ at a Sorry record, then
+-- at a Sorry record, then
 pub goal_sorry : (l : List ℕ) → Good Check l → (a : Answer) (st : St) → run (term_at l 0) (check (prop (prop_at l (expected l)))) [] start ≡ ok a st → (g : Gap) → At g a.tree
     → (g.term < terms l) × (kind_of (term_record l g.term).kind ≡ Sorry)
 goal_sorry l good a st accepted g p = sorry_of l g.term good (goal_seen l a st accepted g p)
 
-__ DEMAND 3 for the term of a passing table, checked from the empty context: see `Demand3` of the rules
+-- DEMAND 3 for the term of a passing table, checked from the empty context: see `Demand3` of the rules
 pub table_fills : (l : List ℕ) → Good Check l → (a : Answer) (st : St) → run (term_at l 0) (check (prop (prop_at l (expected l)))) [] start ≡ ok a st
     → (u : Term) (g : Gap) (p : At g a.tree) → place u ≡ g.term
     → Follows (λ x. RunsAfter g.term x (term_at l 0)) g (filled g a p) st (run (plug g.term u (term_at l 0)) (check (prop (prop_at l (expected l)))) [] start) (at_goal u g)

@@ -1,5 +1,5 @@
-__ The lowest number that passes a test, as a loop finds it and as a fact about all numbers.
-__ Assumes nothing.
+-- The lowest number that passes a test, as a loop finds it and as a fact about all numbers.
+-- Assumes nothing.
 use mathlib.Core.Path.{◌≡◌, refl, ap, sym, ◌∙◌}
 use mathlib.Core.Bool.{Bool, true, false, cond}
 use mathlib.Core.Logic.{◌⊎◌, inl, inr}
@@ -12,7 +12,7 @@ use Rattle.table.specs.declared.Guilty.TheVariants.{At, Nobody}
 use Rattle.table.specs.Reading.{first_from, first}
 use Rattle.table.specs.Tests.{or_term}
 
-__ STEPS of a loop over i, up to n
+-- STEPS of a loop over i, up to n
 pub first_start : (t : ℕ → Bool) (n : ℕ) → first t n ≡ first_from t 0 (n - 0)
 first_start t n = ap (first_from t 0) (sym (sub-zero n))
 
@@ -28,7 +28,7 @@ pub first_none : (t : ℕ → Bool) (i n : ℕ) → n ≤ i → first_from t i (
 unfolding first_from
 first_none t i n h = let q : n - i ≡ 0 = omega arith in rw q
 
-__ FACTS: what a search from i over k numbers found
+-- FACTS: what a search from i over k numbers found
 record Found (t : ℕ → Bool) (i k j : ℕ) : Type 0 where
   from : i ≤ j
   below : j < i + k
@@ -68,7 +68,7 @@ clear t i (suc k) e m a b = at (t i) refl e (λ q l. clear t (suc i) k q m l (om
 pub first_clear : (t : ℕ → Bool) (n : ℕ) → first t n ≡ Nobody → (i : ℕ) → i < n → t i ≡ false
 first_clear t n e i h = clear t 0 n e i (omega arith) (omega arith)
 
-__ and what it finds, from what is known of all numbers: nobody, or the only one
+-- and what it finds, from what is known of all numbers: nobody, or the only one
 pub first_nobody : (t : ℕ → Bool) (n : ℕ) → ((i : ℕ) → i < n → t i ≡ false) → first t n ≡ Nobody
 first_nobody t n h = at (first t n) refl
   where
@@ -83,7 +83,7 @@ first_only t n i h p only = at (first t n) refl
     at (At j) e = let r = first_at t n j e in e ∙ ap At (only j r.0 r.1)
     at Nobody e = absurd (let q : t i ≡ false = first_clear t n e i h in let z : ◌≡◌ {A = ℕ} 0 1 = cc in omega arith)
 
-__ among propositions and then terms
+-- among propositions and then terms
 pub or_nobody : (g h : Guilty) (p : ℕ) → or_term g p h ≡ Nobody → (g ≡ Nobody) × (h ≡ Nobody)
 unfolding or_term
 or_nobody (At n) h p e = absurd (let z : ◌≡◌ {A = ℕ} 0 1 = cc in omega arith)

@@ -1,4 +1,4 @@
-__ What the code of test 5 tests, record by record. Assumes nothing.
+-- What the code of test 5 tests, record by record. Assumes nothing.
 use mathlib.Core.Path.{◌≡◌, refl, ap, ap₂, sym, subst⁻¹, ◌∙◌}
 use mathlib.Core.Bool.{Bool, true, false, ◌&&◌, ◌||◌, not, cond}
 use mathlib.Core.List.{List, [], ◌∷◌}
@@ -24,7 +24,7 @@ and_true : (b : Bool) → (b && true) ≡ b
 and_true true = refl
 and_true false = refl
 
-__ a type's link
+-- a type's link
 pub annotation_test : (ok : ℕ → Bool) (tag m : ℕ) → (not (eqb tag 1) || ok m) ≡ all_links ok (annotation_links tag m)
 unfolding all_links annotation_links
 annotation_test ok tag m = pick (eqb tag 1)
@@ -33,7 +33,7 @@ annotation_test ok tag m = pick (eqb tag 1)
     pick true = sym (and_true (ok m))
     pick false = refl
 
-__ a proposition's links: none, the body, or two
+-- a proposition's links: none, the body, or two
 pub no_child : (ok : ℕ → Bool) (k : ℕ) (r : Record) → k ≡ 0 → true ≡ all_links ok (prop_children k r)
 unfolding all_links prop_children
 no_child ok k r e = subst⁻¹ (λ (j : ℕ). true ≡ all_links ok (prop_children j r)) e refl
@@ -48,7 +48,7 @@ two_children ok zero r h = absurd (omega arith)
 two_children ok (suc zero) r h = absurd (omega arith)
 two_children ok (suc (suc k)) r h = ap (λ (b : Bool). ok r.a && b) (sym (and_true (ok r.b)))
 
-__ a term's links
+-- a term's links
 pub children_test : (ok : ℕ → Bool) (k : ℕ) (r : TermRecord)
     → ((not (ltb 0 k) || ok r.child1.0) && ((not (ltb 1 k) || ok r.child2.0) && (not (ltb 2 k) || ok r.child3.0))) ≡ all_links ok (term_children k r)
 unfolding all_links term_children
@@ -59,7 +59,7 @@ children_test ok (suc (suc (suc k))) r =
     rw (lt-ltb 0 (suc (suc (suc k))) (omega arith), lt-ltb 1 (suc (suc (suc k))) (omega arith), lt-ltb 2 (suc (suc (suc k))) (omega arith))
     (ap (λ (b : Bool). ok r.child1.0 && (ok r.child2.0 && b)) (sym (and_true (ok r.child3.0))))
 
-__ a count that is shown as 1 is 1
+-- a count that is shown as 1 is 1
 cap_one : (x : ℕ) → eqb (min 2 x) 1 ≡ eqb x 1
 cap_one x = pick (eqb x 1) refl
   where
@@ -75,7 +75,7 @@ pub term_guilt : (l : List ℕ) (t : ℕ) (ok : Bool) (x : ℕ) → ok ≡ term_
 unfolding badly_linked_term
 term_guilt l t ok x e h = ap₂ (λ (a b : Bool). not (a && (eqb t 0 || b))) e (ap (λ (k : ℕ). eqb k 1) h ∙ cap_one (term_named l t))
 
-__ a term's links, read by a caller that has the counts
+-- a term's links, read by a caller that has the counts
 pub term_ok : (l : List ℕ) (t p count : ℕ) (r : TermRecord) → r ≡ as_term (record_at l (p + t + 1)) → p ≡ props l → count ≡ terms l
     → (all_links (λ m. ltb t m && ltb m count) (term_links r) && all_links (λ m. ltb m p) (annotation r)) ≡ term_links_ok l t
 term_ok l t p count r er ep ec =
@@ -83,7 +83,7 @@ term_ok l t p count r er ep ec =
     ap₂ (λ (k : ℕ) (s : TermRecord). all_links (λ m. ltb t m && ltb m k) (term_links s) && all_links (λ m. ltb m p) (annotation s)) ec e
     ∙ ap (λ (k : ℕ). all_links (λ m. ltb t m && ltb m (terms l)) (term_links (term_record l t)) && all_links (λ m. ltb m k) (annotation (term_record l t))) ep
 
-__ the searches of the loops are those of test 5 once the room shows the counts
+-- the searches of the loops are those of test 5 once the room shows the counts
 pub props_guilt : (p : Purpose) (l w : List ℕ) → NamesShown p l w → (n : ℕ) → n < props l → not (prop_links_ok l n && eqb (get_or w n 0) 1) ≡ badly_linked_prop p l n
 props_guilt p l w s n h = prop_guilt p l n _ (get_or w n 0) refl (ap (λ (k : ℕ). get_or w k 0) (sym (zero-add n)) ∙ s.prop n h)
 

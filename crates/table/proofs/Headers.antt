@@ -1,4 +1,4 @@
-__ What tests 2 and 3 say of a header. Assumes nothing.
+-- What tests 2 and 3 say of a header. Assumes nothing.
 use mathlib.Core.Path.{◌≡◌, refl, sym, ◌∙◌}
 use mathlib.Core.Bool.{Bool, true, false, ◌&&◌, not}
 use mathlib.Core.List.{List}
@@ -21,7 +21,7 @@ pub header_long : (l : List ℕ) → leb 16 (length l) ≡ true → header l ≡
 unfolding header
 header_long l h = rw h
 
-__ both parts of a test that holds
+-- both parts of a test that holds
 pub and_left : (a b : Bool) → (a && b) ≡ true → a ≡ true
 and_left true b h = refl
 and_left false b h = h
@@ -30,7 +30,7 @@ pub and_right : (a b : Bool) → (a && b) ≡ true → b ≡ true
 and_right true b h = h
 and_right false b h = absurd (let z : ◌≡◌ {A = ℕ} 0 1 = cc in omega arith)
 
-__ as the code asks test 2
+-- as the code asks test 2
 pub header_length : (l : List ℕ) (ok : Bool) → ok ≡ header l → not ok ≡ false → 16 ≤ length l
 unfolding header
 header_length l ok told z = leb-true 16 (length l) (and_left _ _ (sym told ∙ not-false ok z))
@@ -51,7 +51,7 @@ counted l h =
       long = eqb-true (length l) (file_size (props l) (terms l)) (and_right (A && (B && C)) D h);
     }
 
-__ a search among n numbers finds one within n
+-- a search among n numbers finds one within n
 pub first_most : (t : ℕ → Bool) (n k : ℕ) (g : Guilty) → g ≡ first t n → n ≤ k → AtMost k g
 first_most t n k (At i) e h = omega (arith, (first_at t n i (sym e)).0)
 first_most t n k Nobody e h = tt

@@ -1,5 +1,5 @@
-__ What the code of test 6 keeps in the work room: heights from the children's, depths from the holder's.
-__ Assumes nothing.
+-- What the code of test 6 keeps in the work room: heights from the children's, depths from the holder's.
+-- Assumes nothing.
 use mathlib.Core.Path.{◌≡◌, refl, ap, sym, subst, subst⁻¹, ◌∙◌}
 use mathlib.Core.Bool.{Bool, true, false}
 use mathlib.Core.List.{List, []}
@@ -29,7 +29,7 @@ use Rattle.table.proofs.Links.{directed, child_below, term_child, holder_child, 
 use Rattle.table.proofs.Namings.{term_hits}
 use Rattle.table.proofs.Sizes.{height_none, height_one, height_two, depth_root, depth_child}
 
-__ A RECORD WITH k CHILDREN: which they are, and its height over theirs
+-- A RECORD WITH k CHILDREN: which they are, and its height over theirs
 body_named : (k : ℕ) (r : Record) → k ≡ 1 → 0 < hits r.c (prop_children k r)
 unfolding prop_children
 body_named k r e = subst⁻¹ (λ (j : ℕ). 0 < hits r.c (prop_children j r)) e (hit_here r.c [])
@@ -60,7 +60,7 @@ over_two zero r w h = absurd (omega arith)
 over_two (suc zero) r w h = absurd (omega arith)
 over_two (suc (suc k)) r w h = refl
 
-__ the same, with the record's shape in hand
+-- the same, with the record's shape in hand
 module _ (r : Record) (w : List ℕ) (s : PropShape) (e : s ≡ prop_shape (prop_kind r.kind)) where
   many : s.children ≡ (prop_shape (prop_kind r.kind)).children
   many = ap (λ (s : PropShape). s.children) e
@@ -89,7 +89,7 @@ module _ (r : Record) (w : List ℕ) (s : PropShape) (e : s ≡ prop_shape (prop
   pub right_height : 2 ≤ s.children → get_or w r.a 0 ≤ get_or w r.b 0 → get_or w r.b 0 + 1 ≡ height_of r w
   right_height q h = omega (arith, over_two _ r w (both_many q))
 
-__ HEIGHTS of the records below n, each within the limit
+-- HEIGHTS of the records below n, each within the limit
 abbrev pub Heights : List ℕ → List ℕ → ℕ → Type 0
 Heights l w n = (j : ℕ) → j < n → (get_or w j 0 ≡ height (prop_at l j)) × (get_or w j 0 ≤ most_height)
 
@@ -133,7 +133,7 @@ pub not_high : (l : List ℕ) (n x : ℕ) → x ≡ height (prop_at l n) → x �
 unfolding too_high
 not_high l n x e h = le-ltb most_height (height (prop_at l n)) (omega arith)
 
-__ A DEPTH FOR EACH CHILD, one after another: a link is not used, or is written
+-- A DEPTH FOR EACH CHILD, one after another: a link is not used, or is written
 pub deepened_none : (m d : ℕ) (u : Bool) (w : List ℕ) → u ≡ false → Deepened (used_hits u m) d w w
 deepened_none m d u w e =
     subst⁻¹ (λ (v : Bool). Deepened (used_hits v m) d w w) e record { size = refl; here = λ t h. absurd (omega arith); others = λ t h. refl }
@@ -165,7 +165,7 @@ deepened_then {f} {g} {d} {x} {y} {z} a b =
 deepened_same : {f g : ℕ → ℕ} {d : ℕ} {x y : List ℕ} → Deepened f d x y → ((t : ℕ) → f t ≡ g t) → Deepened g d x y
 deepened_same {f} {g} {d} {x} {y} a e = record { size = a.size; here = λ t h. a.here t (omega (arith, e t)); others = λ t h. a.others t (omega (arith, e t)) }
 
-__ a term's three links
+-- a term's three links
 abbrev one : TermRecord → TermShape → ℕ → ℕ
 one r s = used_hits (ltb 0 s.children) r.child1.0
 
@@ -181,13 +181,13 @@ module _ (r : TermRecord) (s : TermShape) (e : s ≡ term_shape (kind_of r.kind)
 
   pub children_within : (w v : List ℕ) → Within (λ t. hits t (term_links r)) w → length v ≡ length w → Within (one r s) v × Within (two r s) v × Within (three r s) v
   children_within w v h q =
-      let in-room : (t : ℕ) → 0 < hits t (term_links r) → t < length v = λ t x. omega (arith, h t x) in
-      (λ t x. in-room t (omega (arith, each_child t)), λ t x. in-room t (omega (arith, each_child t)), λ t x. in-room t (omega (arith, each_child t)))
+      let in_room : (t : ℕ) → 0 < hits t (term_links r) → t < length v = λ t x. omega (arith, h t x) in
+      (λ t x. in_room t (omega (arith, each_child t)), λ t x. in_room t (omega (arith, each_child t)), λ t x. in_room t (omega (arith, each_child t)))
 
   pub children_deepened : (d : ℕ) (x y z w : List ℕ) → Deepened (one r s) d x y → Deepened (two r s) d y z → Deepened (three r s) d z w → Deepened (λ t. hits t (term_links r)) d x w
   children_deepened d x y z w a b c = deepened_same (deepened_then a (deepened_then b c)) each_child
 
-__ DEPTHS of the root and of the children of the terms below t
+-- DEPTHS of the root and of the children of the terms below t
 pub record Depths (l w : List ℕ) (t : ℕ) : Type 0 where
   pub root : get_or w 0 0 ≡ depth l 0
   pub child : (s c : ℕ) → s < t → 0 < hits c (term_links (term_record l s)) → get_or w c 0 ≡ depth l c
@@ -196,7 +196,7 @@ pub depths_start : (l w : List ℕ) → 0 < length w → Depths l (set w 0 1) 0
 depths_start l w h = record { root = get_or-set_same w 0 1 0 h ∙ sym (depth_root l); child = λ s c k. absurd (omega arith) }
 
 module _ (l w : List ℕ) (t : ℕ) (g : WellLinked l) (k : t < terms l) where
-  __ a term other than the root has a holder, of a smaller number
+  -- a term other than the root has a holder, of a smaller number
   pub depth_here : Depths l w t → get_or w t 0 ≡ depth l t
   depth_here h = at (eq-or-lt_of_le {n = 0} {m = t} (omega arith))
     where
@@ -205,10 +205,10 @@ module _ (l w : List ℕ) (t : ℕ) (g : WellLinked l) (k : t < terms l) where
       at (inr z) = let o = holder_some g.linked t z k in let b = holder_above (directed g.linked) o.0 t o.1 in h.child o.0 t b.2 b.1
 
   module _ (r : TermRecord) (e : r ≡ term_record l t) where
-    pub subterms-within : terms l ≤ length w → Within (λ c. hits c (term_links r)) w
-    subterms-within f c x = omega (arith, (term_child (directed g.linked) t c k (subst (λ (r : TermRecord). 0 < hits c (term_links r)) e x)).1)
+    pub subterms_within : terms l ≤ length w → Within (λ c. hits c (term_links r)) w
+    subterms_within f c x = omega (arith, (term_child (directed g.linked) t c k (subst (λ (r : TermRecord). 0 < hits c (term_links r)) e x)).1)
 
-    __ a term has one holder
+    -- a term has one holder
     unnamed : (s c : ℕ) → s < t → 0 < hits c (term_links (term_record l s)) → 0 < hits c (term_links (term_record l t)) → ⊥
     unnamed s c b x y =
         let p = holder_child g.linked s c (omega arith) x in
@@ -216,8 +216,8 @@ module _ (l w : List ℕ) (t : ℕ) (g : WellLinked l) (k : t < terms l) where
         let z : s ≡ t = cc in
         omega arith
 
-    pub depths-next : (v : List ℕ) (d : ℕ) → Depths l w t → d ≡ depth l t → Deepened (λ c. hits c (term_links r)) (d + 1) w v → Depths l v (t + 1)
-    depths-next v d h q n = record { root = m.others 0 (none 0 (λ y. omega (arith, (term_child (directed g.linked) t 0 k y).0))) ∙ h.root; child = λ s c b x. at s c x (eq-or-lt_of_le {n = s} {m = t} (omega arith)) }
+    pub depths_next : (v : List ℕ) (d : ℕ) → Depths l w t → d ≡ depth l t → Deepened (λ c. hits c (term_links r)) (d + 1) w v → Depths l v (t + 1)
+    depths_next v d h q n = record { root = m.others 0 (none 0 (λ y. omega (arith, (term_child (directed g.linked) t 0 k y).0))) ∙ h.root; child = λ s c b x. at s c x (eq-or-lt_of_le {n = s} {m = t} (omega arith)) }
       where
         m : Deepened (λ c. hits c (term_links (term_record l t))) (d + 1) w v
         m = subst (λ (r : TermRecord). Deepened (λ c. hits c (term_links r)) (d + 1) w v) e n

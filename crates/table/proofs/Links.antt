@@ -1,5 +1,5 @@
-__ What test 5 gives: where children stand, that each record is named once, and by whom.
-__ Assumes nothing.
+-- What test 5 gives: where children stand, that each record is named once, and by whom.
+-- Assumes nothing.
 use mathlib.Core.Path.{◌≡◌, refl, sym}
 use mathlib.Core.Bool.{Bool, true, false, ◌&&◌, ◌||◌, not, and-eq-true_iff}
 use mathlib.Core.List.{List, []}
@@ -21,7 +21,7 @@ use Rattle.table.specs.Passing.{Linked, Directed}
 use Rattle.table.proofs.Firsts.{first_at, first_clear, first_nobody, first_only}
 use Rattle.table.proofs.Sums.{sum_one, sum_two, sum_zero, sum_some, hit_here, hit_ok}
 
-__ WHO NAMES m, among n records with these links
+-- WHO NAMES m, among n records with these links
 module _ (links : ℕ → List ℕ) (n m : ℕ) where
   abbrev names : ℕ → Bool
   names i = ltb 0 (hits m (links i))
@@ -58,7 +58,7 @@ module _ (links : ℕ → List ℕ) (n m : ℕ) where
           let r = sum_some (λ i. hits m (links i)) n h in
           absurd (omega (arith, ltb-false 0 (hits m (links r.0)) (first_clear names n e r.0 r.1), r.2))
 
-__ WHAT TEST 5 SAYS
+-- WHAT TEST 5 SAYS
 both : (a b : Bool) → not (a && b) ≡ false → (a ≡ true) × (b ≡ true)
 both a b e = (and-eq-true_iff a b).0 (not-false (a && b) e)
 
@@ -74,16 +74,16 @@ module _ {p : Purpose} {l : List ℕ} (h : Linked p l) where
   pub directed : Directed l
   directed = record { prop = λ n k. (prop_ok n k).0; term = λ t k. (term_ok t k).0 }
 
-__ THE RIGHT WAY
+-- THE RIGHT WAY
 module _ {l : List ℕ} (d : Directed l) where
   term_in : (t : ℕ) → t < terms l → (all_links (λ m. ltb t m && ltb m (terms l)) (term_links (term_record l t)) ≡ true) × (all_links (λ m. ltb m (props l)) (annotation (term_record l t)) ≡ true)
   term_in t k = (and-eq-true_iff (all_links (λ m. ltb t m && ltb m (terms l)) (term_links (term_record l t))) (all_links (λ m. ltb m (props l)) (annotation (term_record l t)))).0 (d.term t k)
 
-  __ children of propositions have smaller numbers
+  -- children of propositions have smaller numbers
   pub child_below : (n m : ℕ) → n < props l → 0 < hits m (prop_links (prop_record l n)) → m < n
   child_below n m k x = ltb-true m n (hit_ok (λ m. ltb m n) m (prop_links (prop_record l n)) (d.prop n k) x)
 
-  __ children of terms larger ones
+  -- children of terms larger ones
   pub term_child : (t m : ℕ) → t < terms l → 0 < hits m (term_links (term_record l t)) → (t < m) × (m < terms l)
   term_child t m k x =
       let b = (and-eq-true_iff (ltb t m) (ltb m (terms l))).0 (hit_ok (λ m. ltb t m && ltb m (terms l)) m (term_links (term_record l t)) (term_in t k).0 x) in
@@ -107,7 +107,7 @@ module _ {l : List ℕ} (d : Directed l) where
   unfolding holder
   holder_above t c e = let r = owner_at (λ i. term_links (term_record l i)) (terms l) c t e in (r.0, r.1, (term_child t c r.0 r.1).0)
 
-__ NAMED ONCE
+-- NAMED ONCE
 module _ {p : Purpose} {l : List ℕ} (h : Linked p l) where
   pub prop_once : (n : ℕ) → n < props l → prop_named p l n ≡ 1
   prop_once n k = eqb-true (prop_named p l n) 1 (prop_ok h n k).1
@@ -115,7 +115,7 @@ module _ {p : Purpose} {l : List ℕ} (h : Linked p l) where
   pub term_once : (t : ℕ) → 0 < t → t < terms l → term_named l t ≡ 1
   term_once t z k = eqb-true (term_named l t) 1 (rw (ne_eqb t 0 (omega arith)) at (term_ok h t k).1)
 
-  __ BY WHOM: a child by its parent; the expected proposition and an annotation by no proposition
+  -- BY WHOM: a child by its parent; the expected proposition and an annotation by no proposition
   pub parent_child : (n m : ℕ) → n < props l → 0 < hits m (prop_links (prop_record l n)) → parent l m ≡ At n
   unfolding parent
   parent_child n m k x = owner_only (λ i. prop_links (prop_record l i)) (props l) m (omega (arith, prop_once m (omega (arith, child_below (directed h) n m k x)))) n k x
@@ -136,7 +136,7 @@ module _ {p : Purpose} {l : List ℕ} (h : Linked p l) where
   unfolding holder
   holder_some c z k = owner_some (λ i. term_links (term_record l i)) (terms l) c (omega (arith, term_once c z k))
 
-__ a table to check
+-- a table to check
 pub expected_in : {l : List ℕ} → Linked Check l → expected l < props l
 expected_in {l} h = ltb-true (expected l) (props l) h.goal
 
@@ -145,7 +145,7 @@ unfolding parent
 parent_goal {l} h =
     owner_none (λ i. prop_links (prop_record l i)) (props l) (expected l) (omega (arith, prop_once h (expected l) (expected_in h), hit_here (expected l) []))
 
-__ INDUCTION from the children
+-- INDUCTION from the children
 module _ {l : List ℕ} (d : Directed l) (F : ℕ → Type 0) where
   pub prop_induction : ((n : ℕ) → n < props l → ((m : ℕ) → 0 < hits m (prop_links (prop_record l n)) → F m) → F n) → (n : ℕ) → n < props l → F n
   prop_induction step n k = go (suc n) n (omega arith) k

@@ -1,4 +1,4 @@
-__ Counting names in the work room. Assumes nothing.
+-- Counting names in the work room. Assumes nothing.
 use mathlib.Core.Path.{◌≡◌, refl, ap, sym, subst, subst₂, ◌∙◌}
 use mathlib.Core.Bool.{Bool, true, false, cond}
 use mathlib.Core.List.{List, [], ◌∷◌}
@@ -23,11 +23,11 @@ pub names_same : {b n : ℕ} {f g : ℕ → ℕ} {x y : List ℕ} → Names b n 
 names_same {b} {n} {f} {g} {x} {y} m e =
     record { size = m.size; shows = λ h s. shows_same b n (λ j. h j + f j) (λ j. h j + g j) y (m.shows h s) (λ j. ap (λ (k : ℕ). h j + k) (e j)); others = m.others }
 
-__ nothing named
+-- nothing named
 pub names_none : (b n : ℕ) (l : List ℕ) → Names b n (λ j. 0) l l
 names_none b n l = record { size = refl; shows = λ f s. shows_same b n f (λ j. f j + 0) l s (λ j. omega arith); others = λ i h. refl }
 
-__ one pass after another
+-- one pass after another
 pub names_then : {b n : ℕ} {f g : ℕ → ℕ} {x y z : List ℕ} → Names b n f x y → Names b n g y z → Names b n (λ j. f j + g j) x z
 names_then {b} {n} {f} {g} {x} {y} {z} m k =
     record {
@@ -39,7 +39,7 @@ names_then {b} {n} {f} {g} {x} {y} {z} m k =
 pub names_three : {b n : ℕ} {f g h : ℕ → ℕ} {w x y z : List ℕ} (s : ℕ → ℕ) → Names b n f w x → Names b n g x y → Names b n h y z → ((j : ℕ) → f j + (g j + h j) ≡ s j) → Names b n s w z
 names_three {b} {n} {f} {g} {h} s u v t e = names_same (names_then u (names_then v t)) e
 
-__ ONE LINK: not used; past the last record; or a record's
+-- ONE LINK: not used; past the last record; or a record's
 pub name_unused : (b n m : ℕ) (u : Bool) (l : List ℕ) → u ≡ false → Names b n (used_hits u m) l l
 name_unused b n m u l e = subst (λ (v : Bool). Names b n (used_hits v m) l l) (sym e) (names_none b n l)
 
@@ -60,7 +60,7 @@ name_past b n m u l e h =
       others = λ i o. refl;
     }
 
-__ the same record, or another
+-- the same record, or another
 at_note : (b m : ℕ) (f : ℕ → ℕ) (l : List ℕ) (j : ℕ) → b + m < length l → get_or l (b + j) 0 ≡ min 2 (f j)
     → get_or (set l (b + m) (min 2 (get_or l (b + m) 0 + 1))) (b + j) 0 ≡ min 2 (f j + hits j (m ∷ []))
 at_note b m f l j h s = pick (eqb m j) refl
@@ -88,7 +88,7 @@ name_note b n m u l new e h r q =
       others = λ i o. get_or-set_other l (b + m) i _ 0 (λ w. o (omega arith) (omega arith));
     })
 
-__ A RECORD'S LINKS, one by one
+-- A RECORD'S LINKS, one by one
 pub prop_hits : (k : ℕ) (r : Record) (j : ℕ) → used_hits (eqb k 1) r.c j + (used_hits (ltb 1 k) r.a j + used_hits (ltb 1 k) r.b j) ≡ hits j (prop_children k r)
 unfolding prop_children hits
 prop_hits zero r j = refl
@@ -112,7 +112,7 @@ annotation_hits tag m j = pick (eqb tag 1)
     pick true = refl
     pick false = refl
 
-__ A LOOP over records: after record i, one more
+-- A LOOP over records: after record i, one more
 pub names_step : (b n i : ℕ) (F : ℕ → ℕ → ℕ) {x y z : List ℕ} → Names b n (λ j. sum (F j) i) x y → Names b n (λ j. F j i) y z → Names b n (λ j. sum (F j) (i + 1)) x z
 unfolding sum
 names_step b n i F u v = names_same (names_then u v) (λ j. omega (arith, ap (sum (F j)) (add-one i)))
@@ -121,7 +121,7 @@ pub names_start : (b n : ℕ) (F : ℕ → ℕ → ℕ) (l : List ℕ) → Names
 unfolding sum
 names_start b n F l = names_none b n l
 
-__ ALL PASSES, from an empty room
+-- ALL PASSES, from an empty room
 zeros : (n i : ℕ) → ◌≡◌ {A = ℕ} (get_or (replicate n 0) i 0) 0
 zeros zero i = refl
 zeros (suc n) zero = refl
@@ -137,24 +137,24 @@ module _ (p : Purpose) (l w₀ w₁ w₂ w₃ w₄ : List ℕ) (k P T : ℕ)
     start : (i : ℕ) → get_or w₀ i 0 ≡ 0
     start i = ap (λ (w : List ℕ). get_or w i 0) empty ∙ zeros k i
 
-    for-props : Names 0 P (λ j. hits j (heads p l) + (sum (λ m. hits j (prop_links (prop_record l m))) P + sum (λ t. hits j (annotation (term_record l t))) T)) w₀ w₃
-    for-props = names_then head (names_then by-props by-types)
+    for_props : Names 0 P (λ j. hits j (heads p l) + (sum (λ m. hits j (prop_links (prop_record l m))) P + sum (λ t. hits j (annotation (term_record l t))) T)) w₀ w₃
+    for_props = names_then head (names_then by-props by-types)
 
-    props-shown : Shows 0 P (λ j. hits j (heads p l) + (sum (λ m. hits j (prop_links (prop_record l m))) P + sum (λ t. hits j (annotation (term_record l t))) T)) w₄
-    props-shown j h = by-terms.others (0 + j) (λ q _. omega arith) ∙ for-props.shows (λ _. 0) (λ i _. start (0 + i)) j h ∙ ap (λ (n : ℕ). min 2 n) (omega arith)
+    props_shown : Shows 0 P (λ j. hits j (heads p l) + (sum (λ m. hits j (prop_links (prop_record l m))) P + sum (λ t. hits j (annotation (term_record l t))) T)) w₄
+    props_shown j h = by-terms.others (0 + j) (λ q _. omega arith) ∙ for_props.shows (λ _. 0) (λ i _. start (0 + i)) j h ∙ ap (λ (n : ℕ). min 2 n) (omega arith)
 
-    terms-shown : Shows P T (λ j. sum (λ t. hits j (term_links (term_record l t))) T) w₄
-    terms-shown j h =
-        by-terms.shows (λ _. 0) (λ i _. for-props.others (P + i) (λ _ q. omega arith) ∙ start (P + i)) j h ∙ ap (λ (n : ℕ). min 2 n) (omega arith)
+    terms_shown : Shows P T (λ j. sum (λ t. hits j (term_links (term_record l t))) T) w₄
+    terms_shown j h =
+        by-terms.shows (λ _. 0) (λ i _. for_props.others (P + i) (λ _ q. omega arith) ∙ start (P + i)) j h ∙ ap (λ (n : ℕ). min 2 n) (omega arith)
 
-    pub names-shown : P ≡ props l → T ≡ terms l → NamesShown p l w₄
-    names-shown eP eT =
+    pub names_shown : P ≡ props l → T ≡ terms l → NamesShown p l w₄
+    names_shown eP eT =
         record {
           prop =
               subst₂
               (λ (q r : ℕ). Shows 0 q (λ j. hits j (heads p l) + (sum (λ m. hits j (prop_links (prop_record l m))) q + sum (λ t. hits j (annotation (term_record l t))) r)) w₄)
               eP
               eT
-              props-shown;
-          term = subst₂ (λ (q r : ℕ). Shows q r (λ j. sum (λ t. hits j (term_links (term_record l t))) r) w₄) eP eT terms-shown;
+              props_shown;
+          term = subst₂ (λ (q r : ℕ). Shows q r (λ j. sum (λ t. hits j (term_links (term_record l t))) r) w₄) eP eT terms_shown;
         }

@@ -1,5 +1,5 @@
-__ What a table that passes the tests gives the rules: propositions whose bound parameters have their quantifiers, and no serials; so a run on it may start, and is sound.
-__ Assumes nothing.
+-- What a table that passes the tests gives the rules: propositions whose bound parameters have their quantifiers, and no serials; so a run on it may start, and is sound.
+-- Assumes nothing.
 use mathlib.Core.Path.{◌≡◌, refl, subst}
 use mathlib.Core.Bool.{Bool, true, false, not, cond}
 use mathlib.Core.Option.{Option, none, some}
@@ -41,7 +41,7 @@ use Rattle.table.proofs.Reading.{prop_step, binders_child, binders_root, View, v
 use Rattle.table.proofs.Sizes.{depth_root, depth_child}
 use Rattle.table.proofs.Headers.{counted}
 
-__ A TEST that finds nobody
+-- A TEST that finds nobody
 pub formed : (l : List ℕ) → formless l ≡ Nobody → Formed l
 unfolding formless
 formed l e =
@@ -66,7 +66,7 @@ sized l e =
       term = λ t k. ltb-false most_depth (depth l t) (first_clear (too_deep l) (terms l) r.1 t k);
     }
 
-__ ALL TESTS
+-- ALL TESTS
 pub record Passed (p : Purpose) (l : List ℕ) : Type 0 where
   pub marked : header l ≡ true
   pub counted : Counted l
@@ -105,7 +105,7 @@ good_closed l e = at (closed (prop_at l (expected l))) (good_passed e).shut
     at true e = refl
     at false e = absurd (let z : ◌≡◌ {A = ℕ} 0 1 = cc in omega arith)
 
-__ NO SERIALS in what is read, whatever the bytes
+-- NO SERIALS in what is read, whatever the bytes
 settled_old : (x k : ℕ) (ys : List ℕ) → T (older 0 (settled x k ys))
 unfolding settled older
 settled_old x k [] = tt
@@ -137,7 +137,7 @@ pub prop_old : (l : List ℕ) (n : ℕ) → T (older_ty 0 (prop (prop_at l n)))
 unfolding older_ty prop_at
 prop_old l n = within_old (suc n) l n 0
 
-__ EVERY BOUND PARAMETER HAS ITS QUANTIFIER, among those above
+-- EVERY BOUND PARAMETER HAS ITS QUANTIFIER, among those above
 settled_within : (x k d : ℕ) (ys : List ℕ) → k + length ys ≤ d → T (within d (settled x k ys))
 unfolding settled within
 settled_within x k d [] h = tt
@@ -177,7 +177,7 @@ module _ {p : Purpose} {l : List ℕ} (h : Linked p l) where
   unfolding scoped
   prop_scoped n k e = subst (λ ys. T (each within (length ys) (prop_at l n))) (binders_root (directed h) n e) (prop_within_binders n k)
 
-__ and so in every annotation
+-- and so in every annotation
 type_scoped : (l : List ℕ) (tag m : ℕ) (A : Ty) → type_of l tag m ≡ some A → (tag ≡ 1 → T (scoped (prop (prop_at l m)))) → T (scoped A)
 unfolding type_of scoped
 type_scoped l zero m A e s = absurd (let z : ◌≡◌ {A = ℕ} 0 1 = cc in omega arith)
@@ -216,7 +216,7 @@ module _ {p : Purpose} {l : List ℕ} (f : Formed l) (h : Linked p l) where
       term_induction (directed h) (λ t. Annotations (λ A. T (scoped A)) (term_at l t)) λ t k ih.
       annotations_view (λ A. T (scoped A)) (annotated_scoped t k) (term_view f (directed h) t k) ih
 
-__ A RUN on a table to check may start, and what it proves without goals holds
+-- A RUN on a table to check may start, and what it proves without goals holds
 pub table_proper : (l : List ℕ) → Good Check l → Proper (term_at l 0) (check (prop (prop_at l (expected l)))) [] start
 unfolding older_ctx scoped_ctx
 table_proper l e =
@@ -235,7 +235,7 @@ table_sound l e M a st runs shut ρ =
     let r = table_proper l e in
     scripts_hold M (term_at l 0) (prop_at l (expected l)) a st r.made r.bound r.bound_annotations runs shut ρ
 
-__ THE HEIGHT of a term: the depth of its deepest node
+-- THE HEIGHT of a term: the depth of its deepest node
 unfoldable pub deep : Term → ℕ
 deep (leaf p k) = 1
 deep (single p k a) = suc (deep a)

@@ -1,5 +1,5 @@
-__ What a table stands for, one record at a time: the children by the same reading, the quantifiers above by the parent's.
-__ Assumes nothing.
+-- What a table stands for, one record at a time: the children by the same reading, the quantifiers above by the parent's.
+-- Assumes nothing.
 use mathlib.Core.Path.{◌≡◌, refl, ap, sym, ◌∙◌, subst, subst₂, subst⁻¹}
 use mathlib.Core.List.{List, [], ◌∷◌}
 use mathlib.Core.Option.{Option, none, some}
@@ -26,7 +26,7 @@ use Rattle.table.specs.Passing.{Formed, Linked, Directed}
 use Rattle.table.proofs.Sums.{hit_here, hit_later}
 use Rattle.table.proofs.Links.{directed, child_below, term_child, parent_child, parent_above}
 
-__ PROPOSITIONS. A record's reading asks only for its children's
+-- PROPOSITIONS. A record's reading asks only for its children's
 pub prop_of_same : (l : List ℕ) (n : ℕ) (sub sub' : ℕ → Prop) (K : PropKind) (r : Record) → ((m : ℕ) → 0 < hits m (prop_children (prop_shape K).children r) → sub m ≡ sub' m)
     → prop_of l n sub K r ≡ prop_of l n sub' K r
 unfolding prop_of prop_children prop_shape
@@ -51,7 +51,7 @@ module _ {l : List ℕ} (d : Directed l) where
       prop_of_same l n (prop_within n l) (prop_at l) (prop_kind (prop_record l n).kind) (prop_record l n)
       (λ m x. let c = child_below d n m k x in prop_enough n (suc m) m c (omega arith) (omega arith))
 
-__ TERMS
+-- TERMS
 pub term_of_same : (t : ℕ) (A : Option Ty) (sub sub' : ℕ → Term) (K : Kind) (r : TermRecord) → ((m : ℕ) → 0 < hits m (term_children (term_shape K).children r) → sub m ≡ sub' m)
     → term_of t A sub K r ≡ term_of t A sub' K r
 unfolding term_of term_children term_shape
@@ -104,7 +104,7 @@ module _ {l : List ℕ} (d : Directed l) where
   unfolding term_at term_within
   term_step t k = term_enough (terms l) (suc (terms l)) t (omega arith) (omega arith) k
 
-__ A TERM'S PLACE is its record's number
+-- A TERM'S PLACE is its record's number
 place_of : (t : ℕ) (A : Option Ty) (sub : ℕ → Term) (K : Kind) (r : TermRecord) → place (term_of t A sub K r) ≡ t
 unfolding place term_of ascribed
 place_of t A sub Ident r = refl
@@ -132,8 +132,8 @@ place_at l t = at (terms l)
     at zero = refl
     at (suc f) = place_of t (annotated l t) (term_within f l) (kind_of (term_record l t).kind) (term_record l t)
 
-__ THE SHAPE OF A TERM. Where a record's tag is in its kind's range, the term is a node over its children, with the record's type if it has one, and a gap if the
-__ kind is Sorry
+-- THE SHAPE OF A TERM. Where a record's tag is in its kind's range, the term is a node over its children, with the record's type if it has one, and a gap if the
+-- kind is Sorry
 unfoldable pub is_gap : Kind → Bool
 is_gap Ident = false
 is_gap Pair = false
@@ -188,7 +188,7 @@ module _ (l : List ℕ) (t : ℕ) (sub : ℕ → Term) (r : TermRecord) where
   view_of Sorry tag m lo hi = view_gap
   view_of Strange tag m lo hi = absurd (omega arith)
 
-__ TEST 4's ranges of parameter counts and tags
+-- TEST 4's ranges of parameter counts and tags
 count_in : (s : PropShape) (r : Record) → in_prop_shape s r ≡ true → (s.least ≤ r.count) × (r.count ≤ s.most)
 count_in s r e = at (leb s.least r.count) refl (leb r.count s.most) refl
   where
@@ -222,7 +222,7 @@ term_view {l} f d t k =
     subst⁻¹ (View t (annotated l t) (term_at l) (is_gap (kind_of (term_record l t).kind)) (term_links (term_record l t))) (term_step d t k)
     (view_of l t (term_at l) (term_record l t) (kind_of (term_record l t).kind) (term_record l t).tag (term_record l t).typ r.0 r.1)
 
-__ UPWARDS. `up` leads from a record to the next above it, and a rank falls on the way. Then as many steps as the rank are enough
+-- UPWARDS. `up` leads from a record to the next above it, and a rank falls on the way. Then as many steps as the rank are enough
 module _ {X : Type 0} (up : ℕ → Guilty) (rank : ℕ → ℕ) (falls : (n m : ℕ) → up n ≡ At m → rank m < rank n)
     (within : ℕ → ℕ → X) (stop : X) (on : ℕ → X → X) (start : (n : ℕ) → within 0 n ≡ stop)
     (root : (f n : ℕ) → up n ≡ Nobody → within (suc f) n ≡ stop) (next : (f n m : ℕ) → up n ≡ At m → within (suc f) n ≡ on m (within f m)) where
@@ -256,7 +256,7 @@ module _ {l : List ℕ} (d : Directed l) where
   rising : (n m : ℕ) → parent l n ≡ At m → props l - m < props l - n
   rising n m e = let r = parent_above d m n e in omega arith
 
-  __ the objects of the quantifiers above, from the parent's
+  -- the objects of the quantifiers above, from the parent's
   binders_up : (n m : ℕ) → parent l m ≡ At n → binders l m ≡ object (kind_at n) (prop_record l n).a (binders l n)
   unfolding binders binders_within above
   binders_up n m e =
@@ -275,7 +275,7 @@ module _ {l : List ℕ} (d : Directed l) where
       climb_enough (parent l) (λ n. props l - n) rising (λ f n. binders_within f l n) [] (λ n xs. object (kind_at n) (prop_record l n).a xs)
       (λ n. refl) (λ f n e. rw e) (λ f n m e. rw e) f (props l) n (omega arith) (omega arith)
 
-  __ the nearest of them
+  -- the nearest of them
   nearest_up : (n m : ℕ) → parent l m ≡ At n → nearest l m ≡ nearer (kind_at n) n (nearest l n)
   unfolding nearest nearest_within nearest_above
   nearest_up n m e =
@@ -288,7 +288,7 @@ module _ {l : List ℕ} (d : Directed l) where
       climb_root (parent l) (λ n. props l - n) rising (λ f n. nearest_within f l n) Nobody (λ n g. nearer (kind_at n) n g)
       (λ n. refl) (λ f n e. rw e) (λ f n m e. rw e) (props l) n e
 
-  __ with them all
+  -- with them all
   abbrev Nearest : ℕ → Guilty → List ℕ → Type 0
   Nearest n (At q) xs = (n < q) × (q < props l) × (xs ≡ (prop_record l q).a ∷ binders l q)
   Nearest n Nobody xs = xs ≡ []
@@ -328,7 +328,7 @@ module _ {l : List ℕ} (d : Directed l) where
   pub binders_at : (n q : ℕ) → nearest l n ≡ At q → (n < q) × (q < props l) × (binders l n ≡ (prop_record l q).a ∷ binders l q)
   binders_at n q e = subst (λ g. Nearest n g (binders l n)) e (binders_from (props l) n (omega arith))
 
-__ from the parent's, where each record has one
+-- from the parent's, where each record has one
 module _ {p : Purpose} {l : List ℕ} (h : Linked p l) where
   pub binders_child : (n m : ℕ) → n < props l → 0 < hits m (prop_links (prop_record l n)) → binders l m ≡ object (prop_kind (prop_record l n).kind) (prop_record l n).a (binders l n)
   binders_child n m k x = binders_up (directed h) n m (parent_child h n m k x)

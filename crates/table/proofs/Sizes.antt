@@ -1,5 +1,5 @@
-__ Heights and test 7's answers from the children's, depths from the holder's.
-__ Assumes nothing.
+-- Heights and test 7's answers from the children's, depths from the holder's.
+-- Assumes nothing.
 use mathlib.Core.Path.{◌≡◌, refl, ap, ap₂, sym, ◌∙◌}
 use mathlib.Core.Bool.{Bool, ◌&&◌}
 use mathlib.Core.List.{List, map}
@@ -65,7 +65,7 @@ depth_child {l = l} h t c k x =
     climb_up (holder l) (λ t. t) (λ c t e. (holder_above (directed h) t c e).2) (λ f t. depth_within f l t) 1 (λ t d. suc d) (λ t. refl) (λ f t e. rw e) (λ f c t e. rw e)
     c t c t (omega arith) (omega arith) (holder_child h t c k x)
 
-__ TEST 7, from the children's answers. It asks the same of a parameter wherever that stands
+-- TEST 7, from the children's answers. It asks the same of a parameter wherever that stands
 each_anywhere : (t : Param → Bool) (d e : ℕ) (P : Prop) → each (λ d. t) d P ≡ each (λ d. t) e P
 unfolding each
 each_anywhere t d e (const o b) = refl

@@ -1,5 +1,5 @@
-__ Sums over the numbers below n, and how often a number stands in a list.
-__ Assumes nothing.
+-- Sums over the numbers below n, and how often a number stands in a list.
+-- Assumes nothing.
 use mathlib.Core.Path.{◌≡◌, refl, ap₂, ap, sym, ◌∙◌}
 use mathlib.Core.Bool.{Bool, true, false, cond, and-eq-true_iff}
 use mathlib.Core.List.{List, [], ◌∷◌}
@@ -11,7 +11,7 @@ use lib.Dec.{eqb}
 use borrow.Author.Tests.{eqb-true, eq-eqb}
 use Rattle.table.specs.Links.{all_links, hits, sum}
 
-__ SUMS
+-- SUMS
 pub sum_same : (f g : ℕ → ℕ) (n : ℕ) → ((i : ℕ) → i < n → f i ≡ g i) → sum f n ≡ sum g n
 unfolding sum
 sum_same f g zero h = refl
@@ -45,7 +45,7 @@ sum_two f i j (suc n) h k = at (eq-or-lt_of_le (omega arith)) (sum_two f i j n h
     at (inl e) rest = let q : f j ≡ f n = ap f e in omega (arith, sum_one f i n (omega arith))
     at (inr l) rest = omega (arith, rest l)
 
-__ a sum that is not 0 has a part that is not
+-- a sum that is not 0 has a part that is not
 pub sum_some : (f : ℕ → ℕ) (n : ℕ) → 0 < sum f n → (i : ℕ) × (i < n) × (0 < f i)
 unfolding sum
 sum_some f zero h = absurd (omega arith)
@@ -55,7 +55,7 @@ sum_some f (suc n) h = at (eq-or-lt_of_le {n = 0} {m = f n} (omega arith)) (sum_
     at (inl e) rest = let r = rest (omega arith) in (r.0, omega arith, r.2)
     at (inr l) rest = (n, omega arith, l)
 
-__ HITS
+-- HITS
 pub hit_here : (m : ℕ) (ms : List ℕ) → 0 < hits m (m ∷ ms)
 unfolding hits
 hit_here m ms = rw (eq-eqb m m refl) (omega arith)
@@ -76,7 +76,7 @@ pub hit_not : (m : ℕ) → 0 < hits m [] → ⊥
 unfolding hits
 hit_not m h = omega arith
 
-__ what holds of all links holds of one
+-- what holds of all links holds of one
 pub hit_ok : (ok : ℕ → Bool) (m : ℕ) (ms : List ℕ) → all_links ok ms ≡ true → 0 < hits m ms → ok m ≡ true
 unfolding all_links
 hit_ok ok m [] e h = absurd (hit_not m h)

@@ -1,4 +1,4 @@
-__ One test of the chain as the code asks it, for a test of any number; and the entry. Assumes nothing.
+-- One test of the chain as the code asks it, for a test of any number; and the entry. Assumes nothing.
 use mathlib.Core.Path.{◌≡◌, ap, ap₂, sym, ◌∙◌}
 use mathlib.Core.Bool.{Bool, true, false, not}
 use mathlib.Core.List.{List, ◌++◌}
@@ -17,7 +17,7 @@ use Rattle.table.specs.declared.Guilty.TheVariants.{At, Nobody}
 use Rattle.table.specs.declared.Verdict.TheVariants.{Refused}
 use Rattle.table.specs.Tests.{unless, accused, tests, test_room, Tested}
 
-__ A TEST that holds or not
+-- A TEST that holds or not
 module _ (b ok : Bool) (told : ok ≡ b) where
   pub holds : not ok ≡ false → b ≡ true
   holds z = sym told ∙ not-false ok z
@@ -31,7 +31,7 @@ module _ (b ok : Bool) (told : ok ≡ b) where
     unfolding unless
     goes_on z v e = rw (holds z) e
 
-__ A TEST that names the guilty record
+-- A TEST that names the guilty record
 module _ (g found : Guilty) (told : found ≡ g) where
   pub clears : found ≡ Nobody → g ≡ Nobody
   clears z = sym told ∙ z
@@ -41,16 +41,16 @@ module _ (g found : Guilty) (told : found ≡ g) where
     unfolding accused
     accuses i z r e = rw (sym told ∙ z) (ap Refused e)
 
-    pub goes-past : found ≡ Nobody → (v : Verdict) → v ≡ rest → v ≡ accused k g rest
+    pub goes_past : found ≡ Nobody → (v : Verdict) → v ≡ rest → v ≡ accused k g rest
     unfolding accused
-    goes-past z v e = rw (clears z) e
+    goes_past z v e = rw (clears z) e
 
-__ THE ENTRY: a room that is too short; and one whose first bytes were lent to the tests
+-- THE ENTRY: a room that is too short; and one whose first bytes were lent to the tests
 pub tested_short : (p : Purpose) (l work left : List ℕ) (r : Refusal) → length work < test_room → left ≡ cleared test_room work → r ≡ refusal_at 1 0 → Tested p l work left (Refused r)
 unfolding unless
 tested_short p l work left r h c e = record { verdict = rw (lt-leb test_room (length work) h) (ap Refused e); room = c }
 
-__ clearing forgets what stood in the first n bytes
+-- clearing forgets what stood in the first n bytes
 forgets : (n : ℕ) (new work : List ℕ) → length new ≡ n → n ≤ length work → cleared n (new ++ drop n work) ≡ cleared n work
 forgets n new work e h =
     let long : length (new ++ drop n work) ≡ length work = length-append new (drop n work) ∙ (let d = length-drop n work in omega arith) in

@@ -1,5 +1,5 @@
-__ A record's parameters are all bound: what test 7 asks of an atom.
-__ Assumes nothing.
+-- A record's parameters are all bound: what test 7 asks of an atom.
+-- Assumes nothing.
 use Rattle.std.specs.Prelude.{Bool, List, map, ℕ, take}
 use Rattle.numbers.specs.declared.record.Record.{Record}
 use Rattle.rules.specs.Prop.{each_param, named_not}

@@ -1,5 +1,5 @@
-__ The nearest quantifier above a proposition record, and how the work room holds it: two bytes for each record.
-__ Assumes nothing.
+-- The nearest quantifier above a proposition record, and how the work room holds it: two bytes for each record.
+-- Assumes nothing.
 use Rattle.std.specs.Prelude.{◌≡◌, Bool, true, cond, List, ℕ, zero, suc, ◌+◌, ◌*◌, ◌<◌, length, eqb}
 use Rattle.numbers.specs.declared.record.Record.{Record}
 use Rattle.numbers.specs.Limits.{none}
@@ -32,7 +32,7 @@ nearest_within (suc f) l n = nearest_above l (parent l n) (nearest_within f l)
 unfoldable pub nearest : List ℕ → ℕ → Guilty
 nearest l n = nearest_within (props l) l n
 
-__ the room holds its number, or none
+-- the room holds its number, or none
 abbrev pub marked : Guilty → ℕ
 marked Nobody = none
 marked (At q) = q
@@ -40,28 +40,28 @@ marked (At q) = q
 abbrev pub Above : List ℕ → List ℕ → Type 0
 Above l w = (n : ℕ) → n < props l → word_at w (2 * n) ≡ marked (nearest l n)
 
-__ what the code answers of a name x
+-- what the code answers of a name x
 abbrev pub param_of : ℕ → Settled → Param
 param_of x Free = free x
 param_of x (Bound k) = bound k
 
-__ HOW THE ROOM IS WRITTEN. Nothing above any of p records yet
+-- HOW THE ROOM IS WRITTEN. Nothing above any of p records yet
 pub record Vacant (p : ℕ) (old new : List ℕ) : Type 0 where
   pub size : length new ≡ length old
   pub each : (n : ℕ) → n < p → word_at new (2 * n) ≡ none
 
-__ q above the record m, if the link is used; the other records' words stay
+-- q above the record m, if the link is used; the other records' words stay
 pub record Noted (used : Bool) (m q : ℕ) (old new : List ℕ) : Type 0 where
   pub size : length new ≡ length old
   pub here : used ≡ true → word_at new (2 * m) ≡ q
   pub others : (n : ℕ) → (used ≡ true → n ≡ m → ⊥) → word_at new (2 * n) ≡ word_at old (2 * n)
 
-__ record r's children have their words in the room, and so has r, which is number n
+-- record r's children have their words in the room, and so has r, which is number n
 pub record ChildrenFit (r : Record) (n : ℕ) (w : List ℕ) : Type 0 where
   pub self : 2 * n + 1 < length w
   pub child : (m : ℕ) → 0 < hits m (prop_links r) → 2 * m + 1 < length w
 
-__ above each child: n for a quantifier, else what r has above it
+-- above each child: n for a quantifier, else what r has above it
 pub record ChildrenNoted (r : Record) (n : ℕ) (old new : List ℕ) : Type 0 where
   pub size : length new ≡ length old
   pub child : (m : ℕ) → 0 < hits m (prop_links r)

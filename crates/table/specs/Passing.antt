@@ -1,5 +1,5 @@
-__ What a table gives that passed a test: the facts that the next tests, and everything above, may lean on.
-__ Assumes nothing.
+-- What a table gives that passed a test: the facts that the next tests, and everything above, may lean on.
+-- Assumes nothing.
 use Rattle.std.specs.Prelude.{◌≡◌, true, false, List, ℕ, ◌<◌, ◌≤◌, length}
 use Rattle.numbers.specs.Limits.{most_propositions, most_terms, most_height, most_depth}
 use Rattle.table.specs.declared.Purpose.{Purpose}
@@ -11,39 +11,39 @@ use Rattle.table.specs.Reading.{prop_at}
 use Rattle.table.specs.Size.{height, depth}
 use Rattle.table.specs.Tests.{tests}
 
-__ test 3: the limits, and the length
+-- test 3: the limits, and the length
 pub record Counted (l : List ℕ) : Type 0 where
   pub propositions : props l ≤ most_propositions
   pub some : 1 ≤ terms l
   pub few : terms l ≤ most_terms
   pub long : length l ≡ file_size (props l) (terms l)
 
-__ test 4
+-- test 4
 pub record Formed (l : List ℕ) : Type 0 where
   pub prop : (n : ℕ) → n < props l → prop_form (prop_record l n) ≡ true
   pub term : (t : ℕ) → t < terms l → term_form (term_record l t) ≡ true
 
-__ test 5
+-- test 5
 pub record Linked (p : Purpose) (l : List ℕ) : Type 0 where
   pub goal : expected_ok p l ≡ true
   pub prop : (n : ℕ) → n < props l → badly_linked_prop p l n ≡ false
   pub term : (t : ℕ) → t < terms l → badly_linked_term l t ≡ false
 
-__ of test 5 only that every link is in range and goes the right way: what reading a table leans on
+-- of test 5 only that every link is in range and goes the right way: what reading a table leans on
 pub record Directed (l : List ℕ) : Type 0 where
   pub prop : (n : ℕ) → n < props l → prop_links_ok l n ≡ true
   pub term : (t : ℕ) → t < terms l → term_links_ok l t ≡ true
 
-__ test 5 passed, for either purpose
+-- test 5 passed, for either purpose
 pub record WellLinked (l : List ℕ) : Type 0 where
   pub purpose : Purpose
   pub linked : Linked purpose l
 
-__ test 6
+-- test 6
 pub record Sized (l : List ℕ) : Type 0 where
   pub prop : (n : ℕ) → n < props l → height (prop_at l n) ≤ most_height
   pub term : (t : ℕ) → t < terms l → depth l t ≤ most_depth
 
-__ all
+-- all
 abbrev pub Good : Purpose → List ℕ → Type 0
 Good p l = tests p l ≡ Passes

@@ -1,5 +1,5 @@
-__ What a table's records stand for: a proposition and a term of the rules, read from any bytes.
-__ Assumes nothing.
+-- What a table's records stand for: a proposition and a term of the rules, read from any bytes.
+-- Assumes nothing.
 use Rattle.std.specs.Prelude.{Bool, false, cond, not, List, [], ◌∷◌, map, ℕ, zero, suc, take, eqb, ltb}
 use Rattle.std.proofs.Math.Option.{Option, none, some}
 use Rattle.numbers.specs.declared.record.Record.{Record}
@@ -13,7 +13,7 @@ use Rattle.layout.specs.File.{Kind, Ident, Pair, ProjectFst, ProjectSnd, Functio
 use Rattle.layout.specs.File.{OrLeft, OrRight, Case, Abort, TheUnit, TypeAscription, Sorry, Strange, kind_of}
 use Rattle.table.specs.Links.{prop_links, hits}
 
-__ the lowest of i, i + 1, .. (k numbers) that passes the test
+-- the lowest of i, i + 1, .. (k numbers) that passes the test
 unfoldable pub first_from : (ℕ → Bool) → ℕ → ℕ → Guilty
 first_from t i zero = Nobody
 first_from t i (suc k) = cond (t i) (At i) (first_from t (suc i) k)
@@ -21,11 +21,11 @@ first_from t i (suc k) = cond (t i) (At i) (first_from t (suc i) k)
 abbrev pub first : (ℕ → Bool) → ℕ → Guilty
 first t n = first_from t 0 n
 
-__ BOUND NAMES. The proposition of which record n is a child
+-- BOUND NAMES. The proposition of which record n is a child
 unfoldable pub parent : List ℕ → ℕ → Guilty
 parent l n = first (λ p. ltb 0 (hits n (prop_links (prop_record l p)))) (props l)
 
-__ the object names of the quantifiers above record n, the nearest first
+-- the object names of the quantifiers above record n, the nearest first
 unfoldable pub object : PropKind → ℕ → List ℕ → List ℕ
 object (constant b) x xs = xs
 object (linked h) x xs = xs
@@ -41,16 +41,16 @@ unfoldable pub binders_within : ℕ → List ℕ → ℕ → List ℕ
 binders_within zero l n = []
 binders_within (suc f) l n = above l (parent l n) (binders_within f l)
 
-__ a parent has a larger number, so that many steps are enough
+-- a parent has a larger number, so that many steps are enough
 unfoldable pub binders : List ℕ → ℕ → List ℕ
 binders l n = binders_within (props l) l n
 
-__ of the quantifiers above that have this object name the nearest binds; k others stand between
+-- of the quantifiers above that have this object name the nearest binds; k others stand between
 unfoldable pub settled : ℕ → ℕ → List ℕ → Param
 settled x k [] = free x
 settled x k (y ∷ ys) = cond (eqb x y) (bound k) (settled x (suc k) ys)
 
-__ PROPOSITIONS: record n, from what its children stand for
+-- PROPOSITIONS: record n, from what its children stand for
 unfoldable pub prop_of : List ℕ → ℕ → (ℕ → Prop) → PropKind → Record → Prop
 prop_of l n sub (constant b) r = const (table n) b
 prop_of l n sub (linked h) r = link (table n) h (sub r.a) (sub r.b)
@@ -62,11 +62,11 @@ unfoldable pub prop_within : ℕ → List ℕ → ℕ → Prop
 prop_within zero l n = const (table n) false
 prop_within (suc f) l n = prop_of l n (prop_within f l) (prop_kind (prop_record l n).kind) (prop_record l n)
 
-__ children have smaller numbers, so a depth of n + 1 is enough
+-- children have smaller numbers, so a depth of n + 1 is enough
 unfoldable pub prop_at : List ℕ → ℕ → Prop
 prop_at l n = prop_within (suc n) l n
 
-__ TERMS. The type of an annotation: tag 1 a proposition, 2 a datatype
+-- TERMS. The type of an annotation: tag 1 a proposition, 2 a datatype
 unfoldable pub type_of : List ℕ → ℕ → ℕ → Option Ty
 type_of l zero m = none
 type_of l (suc zero) m = some (prop (prop_at l m))
@@ -76,7 +76,7 @@ unfoldable pub ascribed : ℕ → Option Ty → Term → Term
 ascribed t none a = sorry t
 ascribed t (some A) a = single t (Single.ascribe A) a
 
-__ record t, from its type and what its children stand for
+-- record t, from its type and what its children stand for
 unfoldable pub term_of : ℕ → Option Ty → (ℕ → Term) → Kind → TermRecord → Term
 term_of t A sub Ident r = leaf t (Leaf.ident r.name1.0)
 term_of t A sub Pair r = double t Double.pair (sub r.child1.0) (sub r.child2.0)
@@ -101,6 +101,6 @@ unfoldable pub term_within : ℕ → List ℕ → ℕ → Term
 term_within zero l t = sorry t
 term_within (suc f) l t = term_of t (annotated l t) (term_within f l) (kind_of (term_record l t).kind) (term_record l t)
 
-__ children have larger numbers, so a depth of the number of terms is enough
+-- children have larger numbers, so a depth of the number of terms is enough
 unfoldable pub term_at : List ℕ → ℕ → Term
 term_at l t = term_within (terms l) l t

@@ -1,5 +1,5 @@
-__ Document 01, refusal 6: how high a proposition is and how deep a term stands, a single node counting 1.
-__ Assumes nothing.
+-- Document 01, refusal 6: how high a proposition is and how deep a term stands, a single node counting 1.
+-- Assumes nothing.
 use Rattle.std.specs.Prelude.{Bool, List, ℕ, zero, suc, max, ltb}
 use Rattle.numbers.specs.Limits.{most_height, most_depth}
 use Rattle.rules.specs.Prop.{Prop, const, link, quant, atom}
@@ -18,11 +18,11 @@ height (atom o p xs) = 1
 unfoldable pub too_high : List ℕ → ℕ → Bool
 too_high l n = ltb most_height (height (prop_at l n))
 
-__ the term of which term t is a child
+-- the term of which term t is a child
 unfoldable pub holder : List ℕ → ℕ → Guilty
 holder l t = first (λ s. ltb 0 (hits t (term_links (term_record l s)))) (terms l)
 
-__ one more than its holder's; a term that nobody holds is a root
+-- one more than its holder's; a term that nobody holds is a root
 unfoldable pub below : Guilty → (ℕ → ℕ) → ℕ
 below Nobody up = 1
 below (At s) up = suc (up s)
@@ -31,7 +31,7 @@ unfoldable pub depth_within : ℕ → List ℕ → ℕ → ℕ
 depth_within zero l t = 1
 depth_within (suc f) l t = below (holder l t) (depth_within f l)
 
-__ a holder has a smaller number, so that many steps are enough
+-- a holder has a smaller number, so that many steps are enough
 unfoldable pub depth : List ℕ → ℕ → ℕ
 depth l t = depth_within t l t
 

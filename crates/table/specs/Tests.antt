@@ -1,5 +1,5 @@
-__ Document 01, "Refusal numbers": tests 2 to 7 in their order, for a table to check and for a filling, and what they answer.
-__ Assumes nothing.
+-- Document 01, "Refusal numbers": tests 2 to 7 in their order, for a table to check and for a filling, and what they answer.
+-- Assumes nothing.
 use Rattle.std.specs.Prelude.{Bool, ◌&&◌, not, cond, ◌≡◌, List, ℕ, ◌+◌, ◌*◌, ◌≤◌, length, get_or, eqb, leb}
 use Rattle.numbers.specs.Records.{word_at}
 use Rattle.numbers.specs.Refusals.{refusal_at}
@@ -18,7 +18,7 @@ use Rattle.table.specs.Links.{expected_ok, badly_linked_prop, badly_linked_term}
 use Rattle.table.specs.Reading.{first, prop_at}
 use Rattle.table.specs.Size.{too_high, too_deep}
 
-__ TEST 2: at least a header, its mark "NDT" and a zero, version 1, and zeros at its end
+-- TEST 2: at least a header, its mark "NDT" and a zero, version 1, and zeros at its end
 abbrev pub mark : List ℕ → Bool
 mark l = eqb (get_or l 0 0) 78 && (eqb (get_or l 1 0) 68 && (eqb (get_or l 2 0) 84 && eqb (get_or l 3 0) 0))
 
@@ -28,12 +28,12 @@ blank l = eqb (get_or l 12 0) 0 && (eqb (get_or l 13 0) 0 && (eqb (get_or l 14 0
 unfoldable pub header : List ℕ → Bool
 header l = leb 16 (length l) && (mark l && (eqb (word_at l 4) 1 && blank l))
 
-__ TEST 3: the counts within their limits, and a length that goes with them
+-- TEST 3: the counts within their limits, and a length that goes with them
 unfoldable pub counts : List ℕ → Bool
 counts l =
     (leb (props l) most_propositions && (leb 1 (terms l) && leb (terms l) most_terms)) && eqb (length l) (file_size (props l) (terms l))
 
-__ THE LOWEST guilty record of tests 4, 5 and 6, propositions counted before terms
+-- THE LOWEST guilty record of tests 4, 5 and 6, propositions counted before terms
 unfoldable pub or_term : Guilty → ℕ → Guilty → Guilty
 or_term (At n) p g = At n
 or_term Nobody p (At t) = At (p + t)
@@ -42,29 +42,29 @@ or_term Nobody p Nobody = Nobody
 abbrev pub lowest : List ℕ → (ℕ → Bool) → (ℕ → Bool) → Guilty
 lowest l prop-guilty term-guilty = or_term (first prop-guilty (props l)) (props l) (first term-guilty (terms l))
 
-__ a guilty record's number is within n
+-- a guilty record's number is within n
 abbrev pub AtMost : ℕ → Guilty → Type 0
 AtMost n (At i) = i ≤ n
 AtMost n Nobody = Unit {0}
 
-__ TEST 4
+-- TEST 4
 unfoldable pub formless : List ℕ → Guilty
 formless l = lowest l (λ n. not (prop_form (prop_record l n))) (λ t. not (term_form (term_record l t)))
 
-__ TEST 5, but for the expected field
+-- TEST 5, but for the expected field
 unfoldable pub badly_linked : Purpose → List ℕ → Guilty
 badly_linked p l = lowest l (badly_linked_prop p l) (badly_linked_term l)
 
-__ TEST 6
+-- TEST 6
 unfoldable pub oversized : List ℕ → Guilty
 oversized l = lowest l (too_high l) (too_deep l)
 
-__ TEST 7: a check's expected proposition has no free name
+-- TEST 7: a check's expected proposition has no free name
 unfoldable pub open_goal : Purpose → List ℕ → Guilty
 open_goal Check l = cond (closed (prop_at l (expected l))) Nobody (At (expected l))
 open_goal Filling l = Nobody
 
-__ ONE TEST and what comes after it: a refusal, at the guilty record or at place 0 where no record is to blame, or the rest
+-- ONE TEST and what comes after it: a refusal, at the guilty record or at place 0 where no record is to blame, or the rest
 unfoldable pub unless : Bool → ℕ → Verdict → Verdict
 unless ok k rest = cond ok rest (Refused (refusal_at k 0))
 
@@ -72,8 +72,8 @@ unfoldable pub accused : ℕ → Guilty → Verdict → Verdict
 accused k (At i) rest = Refused (refusal_at k i)
 accused k Nobody rest = rest
 
-__ THE TESTS, as a chain: each definition is the tests from one on, in the order 2, 3, 4, 5, 6, 7 of `tests`, and so the last stands first
-__ here. A test more is a definition more, named by the one before it
+-- THE TESTS, as a chain: each definition is the tests from one on, in the order 2, 3, 4, 5, 6, 7 of `tests`, and so the last stands first
+-- here. A test more is a definition more, named by the one before it
 unfoldable pub from_goal : Purpose → List ℕ → Verdict
 from_goal p l = accused 7 (open_goal p l) Passes
 
@@ -95,8 +95,8 @@ from_counts p l = unless (counts l) 3 (from_forms p l)
 unfoldable pub tests : Purpose → List ℕ → Verdict
 tests p l = unless (header l) 2 (from_counts p l)
 
-__ THE ENTRY: a room of at least `test_room` bytes, two for each proposition that a table may have, else refusal 1; those bytes are zeros
-__ afterwards
+-- THE ENTRY: a room of at least `test_room` bytes, two for each proposition that a table may have, else refusal 1; those bytes are zeros
+-- afterwards
 abbrev pub test_room : ℕ
 test_room = 2 * most_propositions
 

@@ -1,10 +1,10 @@
-__ The cycle of check and synthesize, with run and perform between them. Assumes nothing.
+-- The cycle of check and synthesize, with run and perform between them. Assumes nothing.
 use mathlib.Core.Path.{◌≡◌, refl, subst, ◌∙◌}
 use native.Mathlib.Omega.{arith}
 use lib.ListN.{length}
 use Rattle.step.specs.Rooms.{Rooms, rooms}
 use Rattle.step.specs.Modes.{WantIn}
-use Rattle.checker.proofs.Turns.{rank, rank_below, left, Going, go_first, go-ended, go-refused, go-instead, go-there, go-child, go-stop, go-resume, go-again, go-less, ran_as}
+use Rattle.checker.proofs.Turns.{rank, rank_below, left, Going, go_first, go_ended, go_refused, go_instead, go_there, go_child, go_stop, go_resume, go_again, go_less, ran_as}
 use borrow.Author.Rules.{rules}
 use Prim.Native.Nat.{ℕ, ◌<◌}
 use borrow.Fn.Kinds.{In}
@@ -95,7 +95,7 @@ check-same-length-4 t c = search rules
 check-returns : (t : ℕ) → check-lts.Need-returns (check-claims t) (check-at t) check.Post
 check-returns t c = c.before.before.before.before.before.before.before.before.perform.ensures
 
-__ from whatever rooms the term was begun, what it went on with before the loop it goes on with now
+-- from whatever rooms the term was begun, what it went on with before the loop it goes on with now
 abbrev invariant-loop : perform-lts.invariant-loop
 invariant-loop file tree₁ goals₁ props₁ work₁ k w st next₁ tree goals props work next =
     (length tree ≡ length tree₁) × (length goals ≡ length goals₁) × (length props ≡ length props₁) × (length work ≡ length work₁)
@@ -119,7 +119,7 @@ perform-enum-known-next : (t : ℕ) → perform-lts.Need-enum-known-next (perfor
 perform-enum-known-next t c = search rules
 
 perform-settle-requires : (t : ℕ) → perform-lts.Need-settle-requires (perform-claims t) (perform-at t) perform.Post invariant-loop decreases-loop
-perform-settle-requires t c κs = go-ended _ _ _ _ _ _ _ (going t c.before.before.before.before.before) c.before.before.before.before.before.before.before.before.before.before.before.before.before.before.before.before.before.before.before.before.before.before.before.before.requires.1.0 c.before.before.before.before.before.before.before.before.before.before.before.before.before.before.before.before.before.before.before.before.before.before.before.before.requires.1.1 _ _ c.before.before.before.next.given.1
+perform-settle-requires t c κs = go_ended _ _ _ _ _ _ _ (going t c.before.before.before.before.before) c.before.before.before.before.before.before.before.before.before.before.before.before.before.before.before.before.before.before.before.before.before.before.before.before.requires.1.0 c.before.before.before.before.before.before.before.before.before.before.before.before.before.before.before.before.before.before.before.before.before.before.before.before.requires.1.1 _ _ c.before.before.before.next.given.1
 
 perform-same-length : (t : ℕ) → perform-lts.Need-same-length (perform-claims t) (perform-at t) perform.Post invariant-loop decreases-loop
 perform-same-length t c = c.before.before.settle.auto.1.0 ∙ c.before.before.before.before.before.before.before.before.loop.invariant.0 ∙ c.before.before.before.before.before.before.before.before.before.before.before.before.before.before.before.before.before.begin.auto.1.0
@@ -134,7 +134,7 @@ perform-same-length-4 : (t : ℕ) → perform-lts.Need-same-length-4 (perform-cl
 perform-same-length-4 t c = c.before.before.before.before.before.before.before.before.loop.invariant.3 ∙ c.before.before.before.before.before.before.before.before.before.before.before.before.before.before.before.before.before.begin.auto.1.1.1.1.0
 
 perform-returns : (t : ℕ) → perform-lts.Need-returns (perform-claims t) (perform-at t) perform.Post invariant-loop decreases-loop
-perform-returns t c = c.before.before.settle.ensures (go-ended _ _ _ _ _ _ _ (going t c.before.before.before.before.before.before.before.before) c.before.before.before.before.before.before.before.before.before.before.before.before.before.before.before.before.before.before.before.before.before.before.before.before.before.before.before.requires.1.0 c.before.before.before.before.before.before.before.before.before.before.before.before.before.before.before.before.before.before.before.before.before.before.before.before.before.before.before.requires.1.1 _ _ c.before.before.before.before.before.before.next.given.1)
+perform-returns t c = c.before.before.settle.ensures (go_ended _ _ _ _ _ _ _ (going t c.before.before.before.before.before.before.before.before) c.before.before.before.before.before.before.before.before.before.before.before.before.before.before.before.before.before.before.before.before.before.before.before.before.before.before.before.requires.1.0 c.before.before.before.before.before.before.before.before.before.before.before.before.before.before.before.before.before.before.before.before.before.before.before.before.before.before.before.requires.1.1 _ _ c.before.before.before.before.before.before.next.given.1)
 
 perform-enum-known-next-2 : (t : ℕ) → perform-lts.Need-enum-known-next-2 (perform-claims t) (perform-at t) perform.Post invariant-loop decreases-loop
 perform-enum-known-next-2 t c = search rules
@@ -152,13 +152,13 @@ perform-same-length-8 : (t : ℕ) → perform-lts.Need-same-length-8 (perform-cl
 perform-same-length-8 t c = c.before.before.before.loop.invariant.3 ∙ c.before.before.before.before.before.before.before.before.before.before.before.before.begin.auto.1.1.1.1.0
 
 perform-returns-2 : (t : ℕ) → perform-lts.Need-returns-2 (perform-claims t) (perform-at t) perform.Post invariant-loop decreases-loop
-perform-returns-2 t c = go-refused _ _ _ _ _ _ _ (going t c.before.before.before) c.before.before.before.before.before.before.before.before.before.before.before.before.before.before.before.before.before.before.before.before.before.before.requires.1.0 _ c.before.next2.given.1
+perform-returns-2 t c = go_refused _ _ _ _ _ _ _ (going t c.before.before.before) c.before.before.before.before.before.before.before.before.before.before.before.before.before.before.before.before.before.before.before.before.before.before.requires.1.0 _ c.before.next2.given.1
 
 perform-enum-known-next-3 : (t : ℕ) → perform-lts.Need-enum-known-next-3 (perform-claims t) (perform-at t) perform.Post invariant-loop decreases-loop
 perform-enum-known-next-3 t c = search rules
 
 perform-check-requires : (t : ℕ) → perform-lts.Need-check-requires (perform-claims t) (perform-at t) perform.Post invariant-loop decreases-loop
-perform-check-requires t c κs = go-instead _ _ _ _ _ _ _ (going t c.before.before.before.before.before.before.before) _ _ _ c.before.before.before.before.before.next3.given.1 _ c.before.before.before.before.before.before.before.before.before.before.before.before.before.before.before.before.before.before.before.before.before.before.before.before.before.before.requires.0
+perform-check-requires t c κs = go_instead _ _ _ _ _ _ _ (going t c.before.before.before.before.before.before.before) _ _ _ c.before.before.before.before.before.next3.given.1 _ c.before.before.before.before.before.before.before.before.before.before.before.before.before.before.before.before.before.before.before.before.before.before.before.before.before.before.requires.0
 
 perform-same-length-9 : (t : ℕ) → perform-lts.Need-same-length-9 (perform-claims t) (perform-at t) perform.Post invariant-loop decreases-loop
 perform-same-length-9 t c = c.before.before.before.before.before.before.before.before.check.auto.1.0 ∙ c.before.before.before.before.before.before.before.before.before.before.before.before.before.before.before.before.loop.invariant.0 ∙ c.before.before.before.before.before.before.before.before.before.before.before.before.before.before.before.before.before.before.before.before.before.before.before.before.before.begin.auto.1.0
@@ -173,13 +173,13 @@ perform-same-length-12 : (t : ℕ) → perform-lts.Need-same-length-12 (perform-
 perform-same-length-12 t c = c.before.before.before.before.before.before.before.before.check.auto.1.1.1.1.0 ∙ c.before.before.before.before.before.before.before.before.before.before.before.before.before.before.before.before.loop.invariant.3 ∙ c.before.before.before.before.before.before.before.before.before.before.before.before.before.before.before.before.before.before.before.before.before.before.before.before.before.begin.auto.1.1.1.1.0
 
 perform-returns-3 : (t : ℕ) → perform-lts.Need-returns-3 (perform-claims t) (perform-at t) perform.Post invariant-loop decreases-loop
-perform-returns-3 t c = go-there _ _ _ _ _ _ _ (going t c.before.before.before.before.before.before.before.before.before.before.before.before.before.before.before.before) _ _ _ c.before.before.before.before.before.before.before.before.before.before.before.before.before.before.next3.given.1 _ c.before.before.before.before.before.before.before.before.check.result c.before.before.before.before.before.before.before.before.check.ensures
+perform-returns-3 t c = go_there _ _ _ _ _ _ _ (going t c.before.before.before.before.before.before.before.before.before.before.before.before.before.before.before.before) _ _ _ c.before.before.before.before.before.before.before.before.before.before.before.before.before.before.next3.given.1 _ c.before.before.before.before.before.before.before.before.check.result c.before.before.before.before.before.before.before.before.check.ensures
 
 perform-enum-known-next-4 : (t : ℕ) → perform-lts.Need-enum-known-next-4 (perform-claims t) (perform-at t) perform.Post invariant-loop decreases-loop
 perform-enum-known-next-4 t c = search rules
 
 perform-run-requires : (t : ℕ) → perform-lts.Need-run-requires (perform-claims t) (perform-at t) perform.Post invariant-loop decreases-loop
-perform-run-requires t c κs = go-child _ _ _ _ _ _ _ (going t c.before.before.before.before.before.before.before) _ _ _ _ _ c.before.before.before.before.before.next4.given.1 _ c.before.before.before.before.before.before.before.before.before.before.before.before.before.before.before.before.before.before.before.before.before.before.before.before.before.before.requires.0
+perform-run-requires t c κs = go_child _ _ _ _ _ _ _ (going t c.before.before.before.before.before.before.before) _ _ _ _ _ c.before.before.before.before.before.next4.given.1 _ c.before.before.before.before.before.before.before.before.before.before.before.before.before.before.before.before.before.before.before.before.before.before.before.before.before.before.requires.0
 
 perform-enum-known-e : (t : ℕ) → perform-lts.Need-enum-known-e (perform-claims t) (perform-at t) perform.Post invariant-loop decreases-loop
 perform-enum-known-e t c = search rules
@@ -197,7 +197,7 @@ perform-same-length-16 : (t : ℕ) → perform-lts.Need-same-length-16 (perform-
 perform-same-length-16 t c = c.before.before.before.before.before.before.before.before.before.before.before.run.auto.1.1.1.1.0 ∙ c.before.before.before.before.before.before.before.before.before.before.before.before.before.before.before.before.before.before.before.loop.invariant.3 ∙ c.before.before.before.before.before.before.before.before.before.before.before.before.before.before.before.before.before.before.before.before.before.before.before.before.before.before.before.before.begin.auto.1.1.1.1.0
 
 perform-returns-4 : (t : ℕ) → perform-lts.Need-returns-4 (perform-claims t) (perform-at t) perform.Post invariant-loop decreases-loop
-perform-returns-4 t c = go-stop _ _ _ _ _ _ _ (going t c.before.before.before.before.before.before.before.before.before.before.before.before.before.before.before.before.before.before.before) _ _ _ _ _ c.before.before.before.before.before.before.before.before.before.before.before.before.before.before.before.before.before.next4.given.1 _ c.before.before.before.before.before.before.before.before.before.before.before.run.result c.before.before.before.before.before.before.before.before.before.before.before.run.ensures c.before.before.before.before.before.before.before.before.before.before.before.before.before.before.before.before.before.before.before.before.before.before.before.before.before.before.before.before.before.before.before.before.before.before.before.before.before.before.requires.1.0 _ c.before.e.given.1
+perform-returns-4 t c = go_stop _ _ _ _ _ _ _ (going t c.before.before.before.before.before.before.before.before.before.before.before.before.before.before.before.before.before.before.before) _ _ _ _ _ c.before.before.before.before.before.before.before.before.before.before.before.before.before.before.before.before.before.next4.given.1 _ c.before.before.before.before.before.before.before.before.before.before.before.run.result c.before.before.before.before.before.before.before.before.before.before.before.run.ensures c.before.before.before.before.before.before.before.before.before.before.before.before.before.before.before.before.before.before.before.before.before.before.before.before.before.before.before.before.before.before.before.before.before.before.before.before.before.before.requires.1.0 _ c.before.e.given.1
 
 perform-enum-known-t : (t : ℕ) → perform-lts.Need-enum-known-t (perform-claims t) (perform-at t) perform.Post invariant-loop decreases-loop
 perform-enum-known-t t c = search rules
@@ -206,13 +206,13 @@ perform-leave-requires : (t : ℕ) → perform-lts.Need-leave-requires (perform-
 perform-leave-requires t c κs = search rules
 
 perform-resume-requires : (t : ℕ) → perform-lts.Need-resume-requires (perform-claims t) (perform-at t) perform.Post invariant-loop decreases-loop
-perform-resume-requires t c κs = go-resume _ _ _ _ _ _ _ (going t c.before.before.before.before.before.before.before.before.before.before.before.before.before.before.before.before.before.before.before.before.before.before.before.before) _ _ _ _ _ c.before.before.before.before.before.before.before.before.before.before.before.before.before.before.before.before.before.before.before.before.before.before.next4.given.1 _ c.before.before.before.before.before.before.before.before.before.before.before.before.before.before.before.before.run.result c.before.before.before.before.before.before.before.before.before.before.before.before.before.before.before.before.run.ensures _ _ c.before.before.before.before.before.before.t.given.1 _ c.before.before.before.leave.ensures
+perform-resume-requires t c κs = go_resume _ _ _ _ _ _ _ (going t c.before.before.before.before.before.before.before.before.before.before.before.before.before.before.before.before.before.before.before.before.before.before.before.before) _ _ _ _ _ c.before.before.before.before.before.before.before.before.before.before.before.before.before.before.before.before.before.before.before.before.before.before.next4.given.1 _ c.before.before.before.before.before.before.before.before.before.before.before.before.before.before.before.before.run.result c.before.before.before.before.before.before.before.before.before.before.before.before.before.before.before.before.run.ensures _ _ c.before.before.before.before.before.before.t.given.1 _ c.before.before.before.leave.ensures
 
 perform-loop-less : (t : ℕ) → perform-lts.Need-loop-smaller (perform-claims t) (perform-at t) perform.Post invariant-loop decreases-loop
-perform-loop-less t c = go-less _ _ _ _ _ _ _ (going t c.before.before.before.before.before.before.before.before.before.before.before.before.before.before.before.before.before.before.before.before.before.before.before.before.before.before.before.before.before.before.before) _ _ _ _ _ c.before.before.before.before.before.before.before.before.before.before.before.before.before.before.before.before.before.before.before.before.before.before.before.before.before.before.before.before.before.next4.given.1 _ c.before.before.before.before.before.before.before.before.before.before.before.before.before.before.before.before.before.before.before.before.before.before.before.run.result c.before.before.before.before.before.before.before.before.before.before.before.before.before.before.before.before.before.before.before.before.before.before.before.run.ensures _ _ c.before.before.before.before.before.before.before.before.before.before.before.before.before.t.given.1 _ c.before.before.before.before.before.before.before.before.before.before.leave.ensures _ _ _ c.before.before.before.before.before.before.resume.result (c.before.before.before.before.before.before.resume.ensures _)
+perform-loop-less t c = go_less _ _ _ _ _ _ _ (going t c.before.before.before.before.before.before.before.before.before.before.before.before.before.before.before.before.before.before.before.before.before.before.before.before.before.before.before.before.before.before.before) _ _ _ _ _ c.before.before.before.before.before.before.before.before.before.before.before.before.before.before.before.before.before.before.before.before.before.before.before.before.before.before.before.before.before.next4.given.1 _ c.before.before.before.before.before.before.before.before.before.before.before.before.before.before.before.before.before.before.before.before.before.before.before.run.result c.before.before.before.before.before.before.before.before.before.before.before.before.before.before.before.before.before.before.before.before.before.before.before.run.ensures _ _ c.before.before.before.before.before.before.before.before.before.before.before.before.before.t.given.1 _ c.before.before.before.before.before.before.before.before.before.before.leave.ensures _ _ _ c.before.before.before.before.before.before.resume.result (c.before.before.before.before.before.before.resume.ensures _)
 
 perform-loop-again : (t : ℕ) → perform-lts.Need-loop-preserved (perform-claims t) (perform-at t) perform.Post invariant-loop decreases-loop
-perform-loop-again t c = (c.before.before.before.before.before.before.resume.auto.1.0 ∙ c.before.before.before.before.before.before.before.before.before.before.before.before.before.before.before.before.before.before.before.before.before.before.before.run.auto.1.0 ∙ c.before.before.before.before.before.before.before.before.before.before.before.before.before.before.before.before.before.before.before.before.before.before.before.before.before.before.before.before.before.before.before.loop.invariant.0, c.before.before.before.before.before.before.before.before.before.before.before.before.before.before.before.before.before.before.before.before.before.before.before.run.auto.1.1.0 ∙ c.before.before.before.before.before.before.before.before.before.before.before.before.before.before.before.before.before.before.before.before.before.before.before.before.before.before.before.before.before.before.before.loop.invariant.1, c.before.before.before.before.before.before.resume.auto.1.1.0 ∙ c.before.before.before.before.before.before.before.before.before.before.before.before.before.before.before.before.before.before.before.before.before.before.before.run.auto.1.1.1.0 ∙ c.before.before.before.before.before.before.before.before.before.before.before.before.before.before.before.before.before.before.before.before.before.before.before.before.before.before.before.before.before.before.before.loop.invariant.2, c.before.before.before.before.before.before.resume.auto.1.1.1.0 ∙ c.before.before.before.before.before.before.before.before.before.before.before.before.before.before.before.before.before.before.before.before.before.before.before.run.auto.1.1.1.1.0 ∙ c.before.before.before.before.before.before.before.before.before.before.before.before.before.before.before.before.before.before.before.before.before.before.before.before.before.before.before.before.before.before.before.loop.invariant.3, λ R₀ g. go-again _ R₀ _ _ _ _ _ (c.before.before.before.before.before.before.before.before.before.before.before.before.before.before.before.before.before.before.before.before.before.before.before.before.before.before.before.before.before.before.before.loop.invariant.4 R₀ g) _ _ _ _ _ c.before.before.before.before.before.before.before.before.before.before.before.before.before.before.before.before.before.before.before.before.before.before.before.before.before.before.before.before.before.next4.given.1 _ c.before.before.before.before.before.before.before.before.before.before.before.before.before.before.before.before.before.before.before.before.before.before.before.run.result c.before.before.before.before.before.before.before.before.before.before.before.before.before.before.before.before.before.before.before.before.before.before.before.run.ensures _ _ c.before.before.before.before.before.before.before.before.before.before.before.before.before.t.given.1 _ c.before.before.before.before.before.before.before.before.before.before.leave.ensures _ _ _ c.before.before.before.before.before.before.resume.result (c.before.before.before.before.before.before.resume.ensures _))
+perform-loop-again t c = (c.before.before.before.before.before.before.resume.auto.1.0 ∙ c.before.before.before.before.before.before.before.before.before.before.before.before.before.before.before.before.before.before.before.before.before.before.before.run.auto.1.0 ∙ c.before.before.before.before.before.before.before.before.before.before.before.before.before.before.before.before.before.before.before.before.before.before.before.before.before.before.before.before.before.before.before.loop.invariant.0, c.before.before.before.before.before.before.before.before.before.before.before.before.before.before.before.before.before.before.before.before.before.before.before.run.auto.1.1.0 ∙ c.before.before.before.before.before.before.before.before.before.before.before.before.before.before.before.before.before.before.before.before.before.before.before.before.before.before.before.before.before.before.before.loop.invariant.1, c.before.before.before.before.before.before.resume.auto.1.1.0 ∙ c.before.before.before.before.before.before.before.before.before.before.before.before.before.before.before.before.before.before.before.before.before.before.before.run.auto.1.1.1.0 ∙ c.before.before.before.before.before.before.before.before.before.before.before.before.before.before.before.before.before.before.before.before.before.before.before.before.before.before.before.before.before.before.before.loop.invariant.2, c.before.before.before.before.before.before.resume.auto.1.1.1.0 ∙ c.before.before.before.before.before.before.before.before.before.before.before.before.before.before.before.before.before.before.before.before.before.before.before.run.auto.1.1.1.1.0 ∙ c.before.before.before.before.before.before.before.before.before.before.before.before.before.before.before.before.before.before.before.before.before.before.before.before.before.before.before.before.before.before.before.loop.invariant.3, λ R₀ g. go_again _ R₀ _ _ _ _ _ (c.before.before.before.before.before.before.before.before.before.before.before.before.before.before.before.before.before.before.before.before.before.before.before.before.before.before.before.before.before.before.before.loop.invariant.4 R₀ g) _ _ _ _ _ c.before.before.before.before.before.before.before.before.before.before.before.before.before.before.before.before.before.before.before.before.before.before.before.before.before.before.before.before.before.next4.given.1 _ c.before.before.before.before.before.before.before.before.before.before.before.before.before.before.before.before.before.before.before.before.before.before.before.run.result c.before.before.before.before.before.before.before.before.before.before.before.before.before.before.before.before.before.before.before.before.before.before.before.run.ensures _ _ c.before.before.before.before.before.before.before.before.before.before.before.before.before.t.given.1 _ c.before.before.before.before.before.before.before.before.before.before.leave.ensures _ _ _ c.before.before.before.before.before.before.resume.result (c.before.before.before.before.before.before.resume.ensures _))
 
 run-enum-told : (t : ℕ) → run-lts.Need-enum-told (run-claims t) (run_at t) run.Post
 run-enum-told t c = search rules

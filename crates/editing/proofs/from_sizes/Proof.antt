@@ -1,6 +1,6 @@
 use borrow.Author.Rules.{rules}
 use Rattle.editing.specs.Edited.{edited_from_sizes}
-use Rattle.table.proofs.Verdicts.{accuses, goes-past}
+use Rattle.table.proofs.Verdicts.{accuses, goes_past}
 use Rattle.editing.proofs.from_sizes.Statement.{statement}
 use Rattle.editing.proofs.from_sizes.Tie as tie
 
@@ -28,7 +28,7 @@ same-length-2 c = search rules
 
 returns-2 : tie.Need-returns-2
 unfolding edited_from_sizes
-returns-2 c = search goes-past
+returns-2 c = search goes_past
 
 pub from-sizes-spec : {M : Type 1} → statement M
 from-sizes-spec =

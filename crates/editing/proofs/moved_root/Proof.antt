@@ -1,5 +1,5 @@
 use borrow.Author.Rules.{rules}
-use Rattle.editing.proofs.Rows.{root-moves, root-moved}
+use Rattle.editing.proofs.Rows.{root_moves, root_moved}
 use Rattle.editing.proofs.moved_root.Statement.{statement}
 use Rattle.editing.proofs.moved_root.Tie as tie
 
@@ -13,10 +13,10 @@ term-count-requires : tie.Need-term-count-requires
 term-count-requires c κs = search rules
 
 move-term-requires : tie.Need-move-term-requires
-move-term-requires c κs = search root-moves
+move-term-requires c κs = search root_moves
 
 returns : tie.Need-returns
-returns c = search root-moved
+returns c = search root_moved
 
 pub moved-root-spec : {M : Type 1} → statement M
 moved-root-spec =

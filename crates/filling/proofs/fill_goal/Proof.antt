@@ -3,7 +3,7 @@ use native.Mathlib.Omega.{arith}
 use Rattle.filling.specs.Fill.{lent}
 use Rattle.step.specs.Rooms.{rooms}
 use Rattle.filling.specs.Steps.{ExactAll}
-use Rattle.filling.proofs.Stages.{filling_refused, filling_good, goal-missing, goal-found, hole_at, hole_fillable}
+use Rattle.filling.proofs.Stages.{filling_refused, filling_good, goal_missing, goal_found, hole_at, hole_fillable}
 use borrow.Author.Rules.{rules}
 use Rattle.filling.proofs.fill_goal.Statement.{statement}
 use Rattle.filling.proofs.fill_goal.Tie as tie
@@ -74,7 +74,7 @@ returns-2 c =
     let tested = c.before.before.before.before.before.before.before.before.before.before.before.before.before.before.before.before.before.before.before.before.before.before.test_table in
     let y : ExactAll (lent s.args.tree.now s.args.goals.now s.args.props.now tested.new.1.0 s.args.edited.now) =
     record { rooms = record { tree = x.rooms.tree; goals = x.rooms.goals; props = x.rooms.props; work = tested.auto.1.0 ∙ x.rooms.work }; edited = x.edited } in
-    goal-missing s.args.old.now s.args.filling.now s.args.goal (lent s.args.tree.now s.args.goals.now s.args.props.now s.args.work.now s.args.edited.now) _ _ x y tested.result _ tested.ensures _ c.before.before.before.before.before.before.before.before.before.before.before.before.before.before.before.before.before.before.enum_told.given.1 s.args.count old c.before.before.before.before.before.before.before.before.before.before.before.before.before.before.before.before.before.if1.true _ c.before.before.before.before.before.before.before.before.before.before.before.before.before.before.before.before.new.ensures c.before.before.before.before.before.before.before.before.before.before.refuse2.ensures
+    goal_missing s.args.old.now s.args.filling.now s.args.goal (lent s.args.tree.now s.args.goals.now s.args.props.now s.args.work.now s.args.edited.now) _ _ x y tested.result _ tested.ensures _ c.before.before.before.before.before.before.before.before.before.before.before.before.before.before.before.before.before.before.enum_told.given.1 s.args.count old c.before.before.before.before.before.before.before.before.before.before.before.before.before.before.before.before.before.if1.true _ c.before.before.before.before.before.before.before.before.before.before.before.before.before.before.before.before.new.ensures c.before.before.before.before.before.before.before.before.before.before.refuse2.ensures
 
 goal-at-requires : tie.Need-goal-at-requires
 goal-at-requires c κs = search rules
@@ -115,7 +115,7 @@ returns-3 c =
     let tested = c.before.before.before.before.before.before.before.before.before.before.before.before.before.before.before.before.before.before.before.before.before.before.before.before.test_table in
     let y : ExactAll (lent s.args.tree.now s.args.goals.now s.args.props.now tested.new.1.0 s.args.edited.now) =
     record { rooms = record { tree = x.rooms.tree; goals = x.rooms.goals; props = x.rooms.props; work = tested.auto.1.0 ∙ x.rooms.work }; edited = x.edited } in
-    goal-found s.args.old.now s.args.filling.now s.args.goal (lent s.args.tree.now s.args.goals.now s.args.props.now s.args.work.now s.args.edited.now) _ _ x y tested.result _ tested.ensures _ c.before.before.before.before.before.before.before.before.before.before.before.before.before.before.before.before.before.before.before.before.enum_told.given.1 s.args.count old (omega (arith, c.before.before.before.before.before.before.before.before.before.before.before.before.before.before.before.before.before.before.before.if1.false)) c.before.before.before.before.before.before.before.before.before.before.fill-hole.ensures
+    goal_found s.args.old.now s.args.filling.now s.args.goal (lent s.args.tree.now s.args.goals.now s.args.props.now s.args.work.now s.args.edited.now) _ _ x y tested.result _ tested.ensures _ c.before.before.before.before.before.before.before.before.before.before.before.before.before.before.before.before.before.before.before.before.enum_told.given.1 s.args.count old (omega (arith, c.before.before.before.before.before.before.before.before.before.before.before.before.before.before.before.before.before.before.before.if1.false)) c.before.before.before.before.before.before.before.before.before.before.fill-hole.ensures
 
 pub fill-goal-spec : {M : Type 1} → statement M
 fill-goal-spec =

@@ -6,7 +6,7 @@ use lib.ListN.{length, take, drop}
 use lib.Seq.{length-take-le}
 use Rattle.table.specs.declared.Purpose.TheVariants.{Check}
 use Rattle.editing.specs.Edited.{Edited}
-use Rattle.editing.proofs.Edits.{both_tested, edited-in-order, edited-good}
+use Rattle.editing.proofs.Edits.{both_tested, edited_in_order, edited_good}
 use Rattle.filling.specs.Fill.{lent}
 use Rattle.filling.specs.Steps.{ExactAll}
 use Rattle.filling.proofs.Parts.{room_long, part_fits, part_is, bytes_take}
@@ -60,7 +60,7 @@ test-edited-requires c κs =
     let part = part_is size.result s.args.edited.now edit.new.1.1.1.0 fit edit.auto.1.1.1.0 in
     let E : Edited s.args.old.now s.args.filling.now s.args.hole.0 (take size.result (edit.new.1.1.1.0 ++ drop size.result s.args.edited.now)) =
     subst⁻¹ (Edited s.args.old.now s.args.filling.now s.args.hole.0) part edit.ensures in
-    ((omega (arith, E.size), omega (arith, x.rooms.work)), record { purpose = Check; linked = edited-in-order h E })
+    ((omega (arith, E.size), omega (arith, x.rooms.work)), record { purpose = Check; linked = edited_in_order h E })
 
 enum-known-e : tie.Need-enum-known-e
 enum-known-e c = search rules
@@ -128,7 +128,7 @@ run-filling-requires c κs =
         s.requires.1.0,
         (
           (part_fits size.result s.args.edited.now edit.new.1.1.1.0 fit edit.auto.1.1.1.0, E),
-          (edited-good h E (sym tested.ensures ∙ c.before.before.before.before.before.enum_told.given.1), y),
+          (edited_good h E (sym tested.ensures ∙ c.before.before.before.before.before.enum_told.given.1), y),
         ),
       ),
     )

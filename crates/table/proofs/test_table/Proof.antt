@@ -8,7 +8,7 @@ use borrow.Author.Rules.{rules}
 use Rattle.table.proofs.test_table.Statement.{statement}
 use Rattle.table.proofs.test_table.Tie as tie
 
-__ the part of the room that is lent to the tests is as long as they want it
+-- the part of the room that is lent to the tests is as long as they want it
 long_enough : (c : tie.Else1) → length (take test_room c.before.before.before.args.work.now) ≡ test_room
 long_enough c = length-take-le test_room c.before.before.before.args.work.now c.if1.false
 

@@ -1,5 +1,5 @@
 use Rattle.rules.specs.Prop.{bind_at}
-use Rattle.arena.proofs.Copies.{bind-hit, bind-miss}
+use Rattle.arena.proofs.Copies.{bind_hit, bind_miss}
 use borrow.Author.Rules.{rules}
 use Rattle.arena.proofs.copy.bind_at.Statement.{statement}
 use Rattle.arena.proofs.copy.bind_at.Tie as tie
@@ -21,10 +21,10 @@ unfolding bind_at
 returns c = rw c.enum_told.given.1
 
 returns-2 : tie.Need-returns-2
-returns-2 c = search bind-hit
+returns-2 c = search bind_hit
 
 returns-3 : tie.Need-returns-3
-returns-3 c = search bind-miss
+returns-3 c = search bind_miss
 
 returns-4 : tie.Need-returns-4
 unfolding bind_at

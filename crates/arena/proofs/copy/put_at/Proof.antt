@@ -1,5 +1,5 @@
 use Rattle.rules.specs.Prop.{put_at}
-use Rattle.arena.proofs.Copies.{put-hit, put-miss}
+use Rattle.arena.proofs.Copies.{put_hit, put_miss}
 use borrow.Author.Rules.{rules}
 use Rattle.arena.proofs.copy.put_at.Statement.{statement}
 use Rattle.arena.proofs.copy.put_at.Tie as tie
@@ -25,10 +25,10 @@ unfolding put_at
 returns-2 c = rw c.enum-told2.given.1
 
 returns-3 : tie.Need-returns-3
-returns-3 c = search put-hit
+returns-3 c = search put_hit
 
 returns-4 : tie.Need-returns-4
-returns-4 c = search put-miss
+returns-4 c = search put_miss
 
 returns-5 : tie.Need-returns-5
 returns-5 c = search rules

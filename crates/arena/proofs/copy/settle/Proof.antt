@@ -1,5 +1,5 @@
 use Rattle.rules.specs.Context.{settle}
-use Rattle.arena.proofs.Copies.{settle-held, settle-nothing, settle_identifier}
+use Rattle.arena.proofs.Copies.{settle_held, settle_nothing, settle_identifier}
 use borrow.Author.Rules.{rules}
 use Rattle.arena.proofs.copy.settle.Statement.{statement}
 use Rattle.arena.proofs.copy.settle.Tie as tie
@@ -26,10 +26,10 @@ enum-told-3 : tie.Need-enum-told-3
 enum-told-3 c = search rules
 
 returns : tie.Need-returns
-returns c = search settle-held
+returns c = search settle_held
 
 returns-2 : tie.Need-returns-2
-returns-2 c = search settle-nothing
+returns-2 c = search settle_nothing
 
 returns-3 : tie.Need-returns-3
 returns-3 c = search settle_identifier

@@ -1,6 +1,6 @@
 use borrow.Author.Rules.{rules}
 use mathlib.Core.Path.{refl}
-use Rattle.arena.proofs.Makings.{over_more, none_over, copy_fits, top-fits, top-long, made-forall}
+use Rattle.arena.proofs.Makings.{over_more, none_over, copy_fits, top_fits, top_long, made_forall}
 use Rattle.arena.proofs.make.make_forall.Statement.{statement}
 use Rattle.arena.proofs.make.make_forall.Tie as tie
 
@@ -32,13 +32,13 @@ copy-requires : tie.Need-copy-requires
 copy-requires c κs = (search rules, (search rules, (search rules, (search copy_fits, (search rules, search rules)))))
 
 one-more-requires : tie.Need-one-more-requires
-one-more-requires c κs = (search top-fits, search top-long)
+one-more-requires c κs = (search top_fits, search top_long)
 
 same-length-3 : tie.Need-same-length-3
 same-length-3 c = search rules
 
 returns-3 : tie.Need-returns-3
-returns-3 c = search made-forall
+returns-3 c = search made_forall
 
 pub make-forall-spec : {M : Type 1} → statement M
 make-forall-spec =

@@ -1,6 +1,6 @@
 use borrow.Author.Rules.{rules}
 use mathlib.Core.Path.{refl}
-use Rattle.arena.proofs.Makings.{over_all, copy_fits, made-put}
+use Rattle.arena.proofs.Makings.{over_all, copy_fits, made_put}
 use Rattle.arena.proofs.make.put_in.Statement.{statement}
 use Rattle.arena.proofs.make.put_in.Tie as tie
 
@@ -29,7 +29,7 @@ same-length-2 : tie.Need-same-length-2
 same-length-2 c = search rules
 
 returns-2 : tie.Need-returns-2
-returns-2 c = search made-put
+returns-2 c = search made_put
 
 pub put-in-spec : {M : Type 1} → statement M
 put-in-spec =

@@ -1,6 +1,6 @@
 use borrow.Author.Rules.{rules}
-use Rattle.arena.proofs.Resolves.{known_constant, known-first, known-second, known_quant, known_atom}
-use Rattle.prop.proofs.Views.{first_below, first-in, second_below, second-in, body_below, body-in}
+use Rattle.arena.proofs.Resolves.{known_constant, known_first, known_second, known_quant, known_atom}
+use Rattle.prop.proofs.Views.{first_below, first_in, second_below, second_in, body_below, body_in}
 use Prim.Native.Nat.{ℕ, ◌<◌}
 use borrow.Fn.Kinds.{In}
 use borrow.Fn.PlainCycle.{Measures, is, falls, and}
@@ -29,13 +29,13 @@ all-known-node-at-requires : (t : ℕ) → all-known-lts.Need-node-at-requires (
 all-known-node-at-requires t c κs = search rules
 
 all-known-all-known-requires : (t : ℕ) → all-known-lts.Need-all-known-requires (claims t) (all-known-at t) all_Known.Post
-all-known-all-known-requires t c κs = (search first_below, (search rules, (search first-in, search rules)))
+all-known-all-known-requires t c κs = (search first_below, (search rules, (search first_in, search rules)))
 
 all-known-all-known-requires-2 : (t : ℕ) → all-known-lts.Need-all-known-requires-2 (claims t) (all-known-at t) all_Known.Post
-all-known-all-known-requires-2 t c κs = (search second_below, (search rules, (search second-in, search rules)))
+all-known-all-known-requires-2 t c κs = (search second_below, (search rules, (search second_in, search rules)))
 
 all-known-all-known-requires-3 : (t : ℕ) → all-known-lts.Need-all-known-requires-3 (claims t) (all-known-at t) all_Known.Post
-all-known-all-known-requires-3 t c κs = (search body_below, (search rules, (search body-in, search rules)))
+all-known-all-known-requires-3 t c κs = (search body_below, (search rules, (search body_in, search rules)))
 
 all-known-atom-known-requires : (t : ℕ) → all-known-lts.Need-atom-known-requires (claims t) (all-known-at t) all_Known.Post
 all-known-atom-known-requires t c κs = search rules
@@ -44,10 +44,10 @@ all-known-returns : (t : ℕ) → all-known-lts.Need-returns (claims t) (all-kno
 all-known-returns t c = search known_constant
 
 all-known-returns-2 : (t : ℕ) → all-known-lts.Need-returns-2 (claims t) (all-known-at t) all_Known.Post
-all-known-returns-2 t c = search known-second
+all-known-returns-2 t c = search known_second
 
 all-known-returns-3 : (t : ℕ) → all-known-lts.Need-returns-3 (claims t) (all-known-at t) all_Known.Post
-all-known-returns-3 t c = search known-first
+all-known-returns-3 t c = search known_first
 
 all-known-returns-4 : (t : ℕ) → all-known-lts.Need-returns-4 (claims t) (all-known-at t) all_Known.Post
 all-known-returns-4 t c = search known_quant

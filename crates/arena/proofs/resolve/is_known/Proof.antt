@@ -1,4 +1,4 @@
-use Rattle.arena.proofs.Resolves.{known-held, known-nothing, known_identifier, known_bound}
+use Rattle.arena.proofs.Resolves.{known_held, known_nothing, known_identifier, known_bound}
 use borrow.Author.Rules.{rules}
 use Rattle.arena.proofs.resolve.is_known.Statement.{statement}
 use Rattle.arena.proofs.resolve.is_known.Tie as tie
@@ -25,10 +25,10 @@ enum-told-5 : tie.Need-enum-told-5
 enum-told-5 c = search rules
 
 returns : tie.Need-returns
-returns c = search known-held
+returns c = search known_held
 
 returns-2 : tie.Need-returns-2
-returns-2 c = search known-nothing
+returns-2 c = search known_nothing
 
 returns-3 : tie.Need-returns-3
 returns-3 c = search known_identifier

@@ -1,6 +1,6 @@
 use borrow.Author.Rules.{rules}
 use Rattle.prop.proofs.Alike.{type_in}
-use Rattle.arena.proofs.Resolves.{same_datatype, name-unknown, too_many, deep_fits, copy_fits, name-known}
+use Rattle.arena.proofs.Resolves.{same_datatype, name_unknown, too_many, deep_fits, copy_fits, name_known}
 use Rattle.arena.proofs.resolve.resolve.Statement.{statement}
 use Rattle.arena.proofs.resolve.resolve.Tie as tie
 
@@ -17,7 +17,7 @@ same_length : tie.Need-same-length
 same_length c = search rules
 
 returns : tie.Need-returns
-returns c = search name-unknown
+returns c = search name_unknown
 
 nodes-of-requires : tie.Need-nodes-of-requires
 nodes-of-requires c κs = (search rules, search type_in)
@@ -44,7 +44,7 @@ same-length-3 : tie.Need-same-length-3
 same-length-3 c = search rules
 
 returns-4 : tie.Need-returns-4
-returns-4 c = search name-known
+returns-4 c = search name_known
 
 pub resolve-spec : {M : Type 1} → statement M
 resolve-spec =

@@ -1,5 +1,5 @@
 use borrow.Author.Rules.{rules}
-use Rattle.editing.proofs.Fields.{prop_told, term_told, stays, prop-changed, term-changed}
+use Rattle.editing.proofs.Fields.{prop_told, term_told, stays, prop_changed, term_changed}
 use Rattle.editing.proofs.moving.change_record.Statement.{statement}
 use Rattle.editing.proofs.moving.change_record.Tie as tie
 
@@ -22,10 +22,10 @@ returns : tie.Need-returns
 returns c = search stays
 
 returns-2 : tie.Need-returns-2
-returns-2 c = search prop-changed
+returns-2 c = search prop_changed
 
 returns-3 : tie.Need-returns-3
-returns-3 c = search term-changed
+returns-3 c = search term_changed
 
 pub change-record-spec : {M : Type 1} → statement M
 change-record-spec =

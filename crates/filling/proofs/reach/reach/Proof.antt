@@ -1,7 +1,7 @@
 use mathlib.Core.Path.{ap, ◌∙◌}
 use native.Mathlib.Omega.{arith}
 use Rattle.step.specs.Rooms.{rooms}
-use Rattle.filling.proofs.Reaching.{goal_same, loadable, term_inside, old_inside, waiting, waiting_inside, table_back, wants, ready-waiting, few-pictured, reached}
+use Rattle.filling.proofs.Reaching.{goal_same, loadable, term_inside, old_inside, waiting, waiting_inside, table_back, wants, ready_waiting, few_pictured, reached}
 use Rattle.rules.specs.Tree.{Gap}
 use Rattle.entry.specs.Ran.{Exact}
 use borrow.Author.Rules.{rules}
@@ -66,7 +66,7 @@ check-requires c κs =
     let J = waiting h E counted _ _ c.before.before.before.before.before.before.before.before.before.before.term-record2.ensures put.ensures in
     let y : Exact (rooms s.args.tree.now s.args.goals.now loaded.new.1.1.0 loaded.new.1.0) =
     record { tree = x.tree; goals = x.goals; props = loaded.auto.1.1.0 ∙ x.props; work = loaded.auto.1.0 ∙ x.work } in
-    (ready-waiting h E counted J s.args.goal (rooms s.args.tree.now s.args.goals.now loaded.new.1.1.0 loaded.new.1.0) y loaded.ensures, wants h E counted J s.args.goal c.before.before.before.before.before.expected-field.result.0 c.before.before.before.before.before.expected-field.ensures)
+    (ready_waiting h E counted J s.args.goal (rooms s.args.tree.now s.args.goals.now loaded.new.1.1.0 loaded.new.1.0) y loaded.ensures, wants h E counted J s.args.goal c.before.before.before.before.before.expected-field.result.0 c.before.before.before.before.before.expected-field.ensures)
 
 put-term-requires-2 : tie.Need-put-term-requires-2
 put-term-requires-2 c κs =
@@ -98,7 +98,7 @@ recall-requires c κs =
     let checked = c.before.before.before.before.before.before.before.before.before.before.before.before.before.check in
     let R' = rooms checked.new.1.0 checked.new.1.1.0 checked.new.1.1.1.0 checked.new.1.1.1.1.0 in
     let hole = s.requires.1.0 in
-    (omega (arith, checked.auto.1.1.1.1.0, y.work), few-pictured h E counted J s.args.goal (rooms s.args.tree.now s.args.goals.now loaded.new.1.1.0 loaded.new.1.0) y loaded.ensures R' checked.result field.result.0 field.ensures checked.ensures hole.gap hole.goal)
+    (omega (arith, checked.auto.1.1.1.1.0, y.work), few_pictured h E counted J s.args.goal (rooms s.args.tree.now s.args.goals.now loaded.new.1.1.0 loaded.new.1.0) y loaded.ensures R' checked.result field.result.0 field.ensures checked.ensures hole.gap hole.goal)
 
 same_length : tie.Need-same-length
 same_length c = search rules

@@ -1,4 +1,4 @@
-use Rattle.filling.proofs.Running.{few_nodes, hole_ready, hole-meets, hole-fits, run_from}
+use Rattle.filling.proofs.Running.{few_nodes, hole_ready, hole_meets, hole_fits, run_from}
 use mathlib.Core.Path.{◌≡◌, ap, sym, ◌∙◌}
 use mathlib.Core.List.{◌++◌}
 use native.Mathlib.Omega.{arith}
@@ -87,7 +87,7 @@ finish-requires c κs =
       edited = ap length whole ∙ x.edited;
     } in
     let long = length-take-le s.args.size s.args.edited.now fit in
-    (z, (hole-fits s.args.old.now s.args.goal s.args.hole.0 s.requires.1.0 (take s.args.size s.args.edited.now) (take s.args.size (reached.new.1.1.1.1.1.1.1.1.0 ++ drop s.args.size s.args.edited.now)) same (rooms reached.new.1.1.1.1.0 reached.new.1.1.1.1.1.0 reached.new.1.1.1.1.1.1.0 reached.new.1.1.1.1.1.1.1.0) reached.result reached.ensures.1 y few (rooms ran.new.1.0 ran.new.1.1.0 ran.new.1.1.1.0 ran.new.1.1.1.1.0) ran.result ran.ensures s.args.size (omega (arith, long, s.requires.1.1.0.1.size)) z.rooms, omega (arith, fit, ap length whole)))
+    (z, (hole_fits s.args.old.now s.args.goal s.args.hole.0 s.requires.1.0 (take s.args.size s.args.edited.now) (take s.args.size (reached.new.1.1.1.1.1.1.1.1.0 ++ drop s.args.size s.args.edited.now)) same (rooms reached.new.1.1.1.1.0 reached.new.1.1.1.1.1.0 reached.new.1.1.1.1.1.1.0 reached.new.1.1.1.1.1.1.1.0) reached.result reached.ensures.1 y few (rooms ran.new.1.0 ran.new.1.1.0 ran.new.1.1.1.0 ran.new.1.1.1.1.0) ran.result ran.ensures s.args.size (omega (arith, long, s.requires.1.1.0.1.size)) z.rooms, omega (arith, fit, ap length whole)))
 
 same_length : tie.Need-same-length
 same_length c = c.before.before.before.before.before.before.before.before.before.before.finish.auto.0 ∙ c.before.before.before.before.before.before.before.before.before.before.before.before.before.before.before.before.before.before.before.before.before.before.before.before.check.auto.1.0 ∙ c.before.before.before.before.before.before.before.before.before.before.before.before.before.before.before.before.before.before.before.before.before.before.before.before.before.before.before.before.before.before.before.before.before.before.before.before.before.before.before.before.before.reach.auto.1.1.1.1.0
@@ -132,7 +132,7 @@ returns c =
           };
       edited = ap length whole ∙ x.edited;
     } in
-    run_from s.args.old.now s.args.goal (take s.args.size s.args.edited.now) (take s.args.size (reached.new.1.1.1.1.1.1.1.1.0 ++ drop s.args.size s.args.edited.now)) same (lent s.args.tree.now s.args.goals.now s.args.props.now s.args.work.now s.args.edited.now) _ _ x z _ ran.result _ c.before.before.before.before.before.before.before.before.before.before.finish.ensures (λ g goal. hole-meets s.args.old.now s.args.goal s.args.hole.0 s.requires.1.0 (take s.args.size s.args.edited.now) (take s.args.size (reached.new.1.1.1.1.1.1.1.1.0 ++ drop s.args.size s.args.edited.now)) same (rooms reached.new.1.1.1.1.0 reached.new.1.1.1.1.1.0 reached.new.1.1.1.1.1.1.0 reached.new.1.1.1.1.1.1.1.0) reached.result reached.ensures.1 y few (rooms ran.new.1.0 ran.new.1.1.0 ran.new.1.1.1.0 ran.new.1.1.1.1.0) ran.result ran.ensures g goal)
+    run_from s.args.old.now s.args.goal (take s.args.size s.args.edited.now) (take s.args.size (reached.new.1.1.1.1.1.1.1.1.0 ++ drop s.args.size s.args.edited.now)) same (lent s.args.tree.now s.args.goals.now s.args.props.now s.args.work.now s.args.edited.now) _ _ x z _ ran.result _ c.before.before.before.before.before.before.before.before.before.before.finish.ensures (λ g goal. hole_meets s.args.old.now s.args.goal s.args.hole.0 s.requires.1.0 (take s.args.size s.args.edited.now) (take s.args.size (reached.new.1.1.1.1.1.1.1.1.0 ++ drop s.args.size s.args.edited.now)) same (rooms reached.new.1.1.1.1.0 reached.new.1.1.1.1.1.0 reached.new.1.1.1.1.1.1.0 reached.new.1.1.1.1.1.1.1.0) reached.result reached.ensures.1 y few (rooms ran.new.1.0 ran.new.1.1.0 ran.new.1.1.1.0 ran.new.1.1.1.1.0) ran.result ran.ensures g goal)
 
 pub run-filling-spec : {M : Type 1} → statement M
 run-filling-spec =

@@ -12,7 +12,7 @@ use Rattle.numbers.proofs.record.put.Tie as tie
 four-long : (c : tie.Start) → length c.args.t3.parameters ≡ 4
 four-long c = search rules
 
-__ what the room holds after each word, and how long it is
+-- what the room holds after each word, and how long it is
 holds-1 : (c : tie.After-put-word) → (c.put_word.new.0 ≡ stored₁ c.before.before.before.args.b.now c.before.before.before.args.n c.before.before.before.args.t3) × (length c.put_word.new.0 ≡ length c.before.before.before.args.b.now)
 holds-1 c = (c.put_word.ensures, c.put_word.auto.0 ∙ simp length-set)
 

@@ -1,4 +1,4 @@
-use Rattle.prop.proofs.Places.{at_unused, at-free, at-identifier, at_bound}
+use Rattle.prop.proofs.Places.{at_unused, at_free, at_identifier, at_bound}
 use borrow.Author.Rules.{rules}
 use Rattle.prop.proofs.atom.parameter_at.Statement.{statement}
 use Rattle.prop.proofs.atom.parameter_at.Tie as tie
@@ -13,10 +13,10 @@ number-at-requires : tie.Need-number-at-requires
 number-at-requires c κs = search rules
 
 returns-2 : tie.Need-returns-2
-returns-2 c = search at-free
+returns-2 c = search at_free
 
 returns-3 : tie.Need-returns-3
-returns-3 c = search at-identifier
+returns-3 c = search at_identifier
 
 returns-4 : tie.Need-returns-4
 returns-4 c = search at_bound

@@ -1,6 +1,6 @@
 use borrow.Author.Rules.{rules}
-use Rattle.prop.proofs.Alike.{cmp_self, cmp-kinds, cmp-constant, cmp-first-in, cmp-second-in, cmp-first-apart, cmp-link, cmp-body-in, cmp-binder-apart, cmp-quant, cmp-atoms}
-use Rattle.prop.proofs.Views.{first_below, first-in, second_below, second-in, body_below, body-in}
+use Rattle.prop.proofs.Alike.{cmp_self, cmp_kinds, cmp_constant, cmp_first_in, cmp_second_in, cmp_first_apart, cmp_link, cmp_body_in, cmp_binder_apart, cmp_quant, cmp_atoms}
+use Rattle.prop.proofs.Views.{first_below, first_in, second_below, second_in, body_below, body_in}
 use Prim.Native.Nat.{ℕ, ◌<◌}
 use borrow.Fn.Kinds.{In}
 use borrow.Fn.PlainCycle.{Measures, is, falls, and}
@@ -36,19 +36,19 @@ compare-node-at-requires-2 : (t : ℕ) → compare-lts.Need-node-at-requires-2 (
 compare-node-at-requires-2 t c κs = search rules
 
 compare-returns-2 : (t : ℕ) → compare-lts.Need-returns-2 (claims t) (compare-at t) compare.Post
-compare-returns-2 t c = search cmp-kinds
+compare-returns-2 t c = search cmp_kinds
 
 compare-compare-requires : (t : ℕ) → compare-lts.Need-compare-requires (claims t) (compare-at t) compare.Post
-compare-compare-requires t c κs = (search first_below, (search rules, (search first-in, search cmp-first-in)))
+compare-compare-requires t c κs = (search first_below, (search rules, (search first_in, search cmp_first_in)))
 
 compare-enum-told : (t : ℕ) → compare-lts.Need-enum-told (claims t) (compare-at t) compare.Post
 compare-enum-told t c = search rules
 
 compare-returns-3 : (t : ℕ) → compare-lts.Need-returns-3 (claims t) (compare-at t) compare.Post
-compare-returns-3 t c = search cmp-first-apart
+compare-returns-3 t c = search cmp_first_apart
 
 compare-compare-requires-2 : (t : ℕ) → compare-lts.Need-compare-requires-2 (claims t) (compare-at t) compare.Post
-compare-compare-requires-2 t c κs = (search second_below, (search rules, (search second-in, search cmp-second-in)))
+compare-compare-requires-2 t c κs = (search second_below, (search rules, (search second_in, search cmp_second_in)))
 
 compare-both-requires : (t : ℕ) → compare-lts.Need-both-requires (claims t) (compare-at t) compare.Post
 compare-both-requires t c κs = search rules
@@ -60,10 +60,10 @@ compare-enum-told-2 : (t : ℕ) → compare-lts.Need-enum-told-2 (claims t) (com
 compare-enum-told-2 t c = search rules
 
 compare-returns-4 : (t : ℕ) → compare-lts.Need-returns-4 (claims t) (compare-at t) compare.Post
-compare-returns-4 t c = search cmp-binder-apart
+compare-returns-4 t c = search cmp_binder_apart
 
 compare-compare-requires-3 : (t : ℕ) → compare-lts.Need-compare-requires-3 (claims t) (compare-at t) compare.Post
-compare-compare-requires-3 t c κs = (search body_below, (search rules, (search body-in, search cmp-body-in)))
+compare-compare-requires-3 t c κs = (search body_below, (search rules, (search body_in, search cmp_body_in)))
 
 compare-both-requires-2 : (t : ℕ) → compare-lts.Need-both-requires-2 (claims t) (compare-at t) compare.Post
 compare-both-requires-2 t c κs = search rules
@@ -72,16 +72,16 @@ compare-atoms-requires : (t : ℕ) → compare-lts.Need-atoms-requires (claims t
 compare-atoms-requires t c κs = search rules
 
 compare-returns-5 : (t : ℕ) → compare-lts.Need-returns-5 (claims t) (compare-at t) compare.Post
-compare-returns-5 t c = search cmp-constant
+compare-returns-5 t c = search cmp_constant
 
 compare-returns-6 : (t : ℕ) → compare-lts.Need-returns-6 (claims t) (compare-at t) compare.Post
-compare-returns-6 t c = search cmp-link
+compare-returns-6 t c = search cmp_link
 
 compare-returns-7 : (t : ℕ) → compare-lts.Need-returns-7 (claims t) (compare-at t) compare.Post
-compare-returns-7 t c = search cmp-quant
+compare-returns-7 t c = search cmp_quant
 
 compare-returns-8 : (t : ℕ) → compare-lts.Need-returns-8 (claims t) (compare-at t) compare.Post
-compare-returns-8 t c = search cmp-atoms
+compare-returns-8 t c = search cmp_atoms
 
 pub +compare-spec : {M : Type 1} → statement M
 +compare-spec = close μ-compare λ t. compare-lts.spec (claims t) (compare-at t) compare.Post

@@ -1,4 +1,4 @@
-use Rattle.prop.proofs.Alike.{type_in, types_props, types_left, types_right, types_same, types-apart}
+use Rattle.prop.proofs.Alike.{type_in, types_props, types_left, types_right, types_same, types_apart}
 use borrow.Author.Rules.{rules}
 use Rattle.prop.proofs.compare.compare_types.Statement.{statement}
 use Rattle.prop.proofs.compare.compare_types.Tie as tie
@@ -37,7 +37,7 @@ returns-4 : tie.Need-returns-4
 returns-4 c = search types_same
 
 returns-5 : tie.Need-returns-5
-returns-5 c = search types-apart
+returns-5 c = search types_apart
 
 pub compare-types-spec : {M : Type 1} → statement M
 compare-types-spec =

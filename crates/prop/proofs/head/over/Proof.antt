@@ -1,4 +1,4 @@
-use Rattle.prop.proofs.Heads.{prop_in, over_one, over-other, over_data}
+use Rattle.prop.proofs.Heads.{prop_in, over_one, over_other, over_data}
 use borrow.Author.Rules.{rules}
 use Rattle.prop.proofs.head.over.Statement.{statement}
 use Rattle.prop.proofs.head.over.Tie as tie
@@ -22,7 +22,7 @@ returns-2 : tie.Need-returns-2
 returns-2 c = search over_one
 
 returns-3 : tie.Need-returns-3
-returns-3 c = search over-other
+returns-3 c = search over_other
 
 pub over-spec : {M : Type 1} → statement M
 over-spec =

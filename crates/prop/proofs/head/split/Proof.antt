@@ -1,4 +1,4 @@
-use Rattle.prop.proofs.Heads.{prop_in, split-both, split-other, split_data}
+use Rattle.prop.proofs.Heads.{prop_in, split_both, split_other, split_data}
 use borrow.Author.Rules.{rules}
 use Rattle.prop.proofs.head.split.Statement.{statement}
 use Rattle.prop.proofs.head.split.Tie as tie
@@ -19,10 +19,10 @@ link-kind-requires : tie.Need-link-kind-requires
 link-kind-requires c κs = search rules
 
 returns-2 : tie.Need-returns-2
-returns-2 c = search split-both
+returns-2 c = search split_both
 
 returns-3 : tie.Need-returns-3
-returns-3 c = search split-other
+returns-3 c = search split_other
 
 pub split-spec : {M : Type 1} → statement M
 split-spec =

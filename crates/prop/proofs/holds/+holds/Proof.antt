@@ -1,6 +1,6 @@
 use borrow.Author.Rules.{rules}
-use Rattle.prop.proofs.Occurs.{holds_constant, holds-first, holds-second, holds_quant, holds_atom}
-use Rattle.prop.proofs.Views.{first_below, first-in, second_below, second-in, body_below, body-in}
+use Rattle.prop.proofs.Occurs.{holds_constant, holds_first, holds_second, holds_quant, holds_atom}
+use Rattle.prop.proofs.Views.{first_below, first_in, second_below, second_in, body_below, body_in}
 use Prim.Native.Nat.{ℕ, ◌<◌}
 use borrow.Fn.Kinds.{In}
 use borrow.Fn.PlainCycle.{Measures, is, falls, and}
@@ -28,13 +28,13 @@ holds-node-at-requires : (t : ℕ) → holds-lts.Need-node-at-requires (claims t
 holds-node-at-requires t c κs = search rules
 
 holds-holds-requires : (t : ℕ) → holds-lts.Need-holds-requires (claims t) (holds_at t) holds.Post
-holds-holds-requires t c κs = (search first_below, (search rules, search first-in))
+holds-holds-requires t c κs = (search first_below, (search rules, search first_in))
 
 holds-holds-requires-2 : (t : ℕ) → holds-lts.Need-holds-requires-2 (claims t) (holds_at t) holds.Post
-holds-holds-requires-2 t c κs = (search second_below, (search rules, search second-in))
+holds-holds-requires-2 t c κs = (search second_below, (search rules, search second_in))
 
 holds-holds-requires-3 : (t : ℕ) → holds-lts.Need-holds-requires-3 (claims t) (holds_at t) holds.Post
-holds-holds-requires-3 t c κs = (search body_below, (search rules, search body-in))
+holds-holds-requires-3 t c κs = (search body_below, (search rules, search body_in))
 
 holds-atom-holds-requires : (t : ℕ) → holds-lts.Need-atom-holds-requires (claims t) (holds_at t) holds.Post
 holds-atom-holds-requires t c κs = search rules
@@ -43,10 +43,10 @@ holds-returns : (t : ℕ) → holds-lts.Need-returns (claims t) (holds_at t) hol
 holds-returns t c = search holds_constant
 
 holds-returns-2 : (t : ℕ) → holds-lts.Need-returns-2 (claims t) (holds_at t) holds.Post
-holds-returns-2 t c = search holds-first
+holds-returns-2 t c = search holds_first
 
 holds-returns-3 : (t : ℕ) → holds-lts.Need-returns-3 (claims t) (holds_at t) holds.Post
-holds-returns-3 t c = search holds-second
+holds-returns-3 t c = search holds_second
 
 holds-returns-4 : (t : ℕ) → holds-lts.Need-returns-4 (claims t) (holds_at t) holds.Post
 holds-returns-4 t c = search holds_quant

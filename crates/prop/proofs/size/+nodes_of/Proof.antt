@@ -1,5 +1,5 @@
-use Rattle.prop.proofs.Counts.{none_left, count-constant, count-atom, over_one, first_fits, first_word, over_two, both_word, count-link, over-body, body-word, count-quant}
-use Rattle.prop.proofs.Views.{first_below, first-in, second_below, second-in, body_below, body-in}
+use Rattle.prop.proofs.Counts.{none_left, count_constant, count_atom, over_one, first_fits, first_word, over_two, both_word, count_link, over_body, body_word, count_quant}
+use Rattle.prop.proofs.Views.{first_below, first_in, second_below, second_in, body_below, body_in}
 use borrow.Author.Rules.{rules}
 use Prim.Native.Nat.{ℕ, ◌<◌}
 use borrow.Fn.Kinds.{In}
@@ -34,7 +34,7 @@ nodes-of-sub-nodes-of : (t : ℕ) → nodes-of-lts.Need-overflow-sub-nodes-of (c
 nodes-of-sub-nodes-of t c = search rules
 
 nodes-of-nodes-of-requires : (t : ℕ) → nodes-of-lts.Need-nodes-of-requires (claims t) (nodes-of-at t) nodes-of.Post
-nodes-of-nodes-of-requires t c κs = (search first_below, (search rules, search first-in))
+nodes-of-nodes-of-requires t c κs = (search first_below, (search rules, search first_in))
 
 nodes-of-enum-known-a : (t : ℕ) → nodes-of-lts.Need-enum-known-a (claims t) (nodes-of-at t) nodes-of.Post
 nodes-of-enum-known-a t c = search rules
@@ -52,7 +52,7 @@ nodes-of-sub-nodes-of-3 : (t : ℕ) → nodes-of-lts.Need-overflow-sub-nodes-of-
 nodes-of-sub-nodes-of-3 t c = search first_fits
 
 nodes-of-nodes-of-requires-2 : (t : ℕ) → nodes-of-lts.Need-nodes-of-requires-2 (claims t) (nodes-of-at t) nodes-of.Post
-nodes-of-nodes-of-requires-2 t c κs = (search second_below, (search rules, search second-in))
+nodes-of-nodes-of-requires-2 t c κs = (search second_below, (search rules, search second_in))
 
 nodes-of-enum-known-b : (t : ℕ) → nodes-of-lts.Need-enum-known-b (claims t) (nodes-of-at t) nodes-of.Post
 nodes-of-enum-known-b t c = search rules
@@ -73,7 +73,7 @@ nodes-of-sub-nodes-of-4 : (t : ℕ) → nodes-of-lts.Need-overflow-sub-nodes-of-
 nodes-of-sub-nodes-of-4 t c = search rules
 
 nodes-of-nodes-of-requires-3 : (t : ℕ) → nodes-of-lts.Need-nodes-of-requires-3 (claims t) (nodes-of-at t) nodes-of.Post
-nodes-of-nodes-of-requires-3 t c κs = (search body_below, (search rules, search body-in))
+nodes-of-nodes-of-requires-3 t c κs = (search body_below, (search rules, search body_in))
 
 nodes-of-enum-known-a-2 : (t : ℕ) → nodes-of-lts.Need-enum-known-a-2 (claims t) (nodes-of-at t) nodes-of.Post
 nodes-of-enum-known-a-2 t c = search rules
@@ -82,22 +82,22 @@ nodes-of-enum-told-3 : (t : ℕ) → nodes-of-lts.Need-enum-told-3 (claims t) (n
 nodes-of-enum-told-3 t c = search rules
 
 nodes-of-returns-4 : (t : ℕ) → nodes-of-lts.Need-returns-4 (claims t) (nodes-of-at t) nodes-of.Post
-nodes-of-returns-4 t c = search over-body
+nodes-of-returns-4 t c = search over_body
 
 nodes-of-add-t20 : (t : ℕ) → nodes-of-lts.Need-overflow-add-t20 (claims t) (nodes-of-at t) nodes-of.Post
-nodes-of-add-t20 t c = search body-word
+nodes-of-add-t20 t c = search body_word
 
 nodes-of-returns-5 : (t : ℕ) → nodes-of-lts.Need-returns-5 (claims t) (nodes-of-at t) nodes-of.Post
-nodes-of-returns-5 t c = search count-link
+nodes-of-returns-5 t c = search count_link
 
 nodes-of-returns-6 : (t : ℕ) → nodes-of-lts.Need-returns-6 (claims t) (nodes-of-at t) nodes-of.Post
-nodes-of-returns-6 t c = search count-quant
+nodes-of-returns-6 t c = search count_quant
 
 nodes-of-returns-7 : (t : ℕ) → nodes-of-lts.Need-returns-7 (claims t) (nodes-of-at t) nodes-of.Post
-nodes-of-returns-7 t c = search count-constant
+nodes-of-returns-7 t c = search count_constant
 
 nodes-of-returns-8 : (t : ℕ) → nodes-of-lts.Need-returns-8 (claims t) (nodes-of-at t) nodes-of.Post
-nodes-of-returns-8 t c = search count-atom
+nodes-of-returns-8 t c = search count_atom
 
 pub +nodes-of-spec : {M : Type 1} → statement M
 +nodes-of-spec = close μ-nodes-of λ t. nodes-of-lts.spec (claims t) (nodes-of-at t) nodes-of.Post

@@ -1,4 +1,4 @@
-use Rattle.rule.proofs.Applications.{argument-asks}
+use Rattle.rule.proofs.Applications.{argument_asks}
 use Rattle.rule.proofs.Going.{asking}
 use Rattle.step.proofs.Moves.{loaded_arena, loaded_type}
 use mathlib.Core.Path.{refl, subst}
@@ -31,7 +31,7 @@ term-record-requires : tie.Need-term-record-requires
 term-record-requires c κs = search rules
 
 returns-2 : tie.Need-returns-2
-returns-2 c = λ tree goals. record { goes = λ R₀ a. asking 1 (λ r. r.child2) _ c.before.term-record.ensures _ (refl) (argument-asks a _ c.before.before.before.before.before.before.before.count_of.ensures _ c.before.before.before.before.before.before.split.ensures _ _ c.before.before.before.before.a.given.1) (omega arith) }
+returns-2 c = λ tree goals. record { goes = λ R₀ a. asking 1 (λ r. r.child2) _ c.before.term-record.ensures _ (refl) (argument_asks a _ c.before.before.before.before.before.before.before.count_of.ensures _ c.before.before.before.before.before.before.split.ensures _ _ c.before.before.before.before.a.given.1) (omega arith) }
 
 pub argument-spec : {M : Type 1} → statement M
 argument-spec = tie.close (tie.spec count-of-requires split-requires enum-known-a enum_told object-requires returns term-record-requires returns-2)

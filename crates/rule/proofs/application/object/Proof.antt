@@ -1,4 +1,4 @@
-use Rattle.rule.proofs.Applications.{object-other, object-refused, object-asks}
+use Rattle.rule.proofs.Applications.{object_other, object_refused, object_asks}
 use Rattle.rule.proofs.Going.{asking}
 use Rattle.step.proofs.Moves.{loaded_arena, loaded_type}
 use mathlib.Core.Path.{refl, subst, subst⁻¹}
@@ -29,7 +29,7 @@ at-requires : tie.Need-at-requires
 at-requires c κs = search rules
 
 returns : tie.Need-returns
-returns c = λ tree goals. record { goes = λ R₀ a. object-other a _ c.before.before.before.before.before.count_of.ensures c.before.before.before.before.before.before.before.before.before.before.before.requires.1.1.1.1 _ c.before.before.before.before.over.ensures _ c.before.before.before.before.before.before.term-record.ensures c.before.before.enum_told.given.1 _ c.at.ensures }
+returns c = λ tree goals. record { goes = λ R₀ a. object_other a _ c.before.before.before.before.before.count_of.ensures c.before.before.before.before.before.before.before.before.before.before.before.requires.1.1.1.1 _ c.before.before.before.before.over.ensures _ c.before.before.before.before.before.before.term-record.ensures c.before.before.enum_told.given.1 _ c.at.ensures }
 
 object-of-requires : tie.Need-object-of-requires
 object-of-requires c κs = (c.before.before.before.before.before.before.before.before.before.before.before.requires.0.0, (subst⁻¹ (λ (r : TermRecord). r.child2.0 < terms c.before.before.before.before.before.before.before.before.before.before.before.args.file.now) c.before.before.before.before.before.before.term-record.ensures c.before.before.before.before.before.before.before.before.before.before.before.requires.1.1.1.0, c.before.before.before.before.before.before.before.before.before.before.before.requires.1.1.0))
@@ -41,10 +41,10 @@ enum-known-i : tie.Need-enum-known-i
 enum-known-i c = search rules
 
 returns-2 : tie.Need-returns-2
-returns-2 c = λ tree goals. record { goes = λ R₀ a. object-refused a _ c.before.before.before.before.before.before.before.before.before.count_of.ensures c.before.before.before.before.before.before.before.before.before.before.before.before.before.before.before.requires.1.1.1.1 _ c.before.before.before.before.before.before.before.before.over.ensures _ c.before.before.before.before.before.before.before.before.before.before.term-record.ensures _ _ c.before.before.before.before.before.before.datatype.given.1 _ (c.before.before.before.object_of.ensures _) _ c.before.e.given.1 }
+returns-2 c = λ tree goals. record { goes = λ R₀ a. object_refused a _ c.before.before.before.before.before.before.before.before.before.count_of.ensures c.before.before.before.before.before.before.before.before.before.before.before.before.before.before.before.requires.1.1.1.1 _ c.before.before.before.before.before.before.before.before.over.ensures _ c.before.before.before.before.before.before.before.before.before.before.term-record.ensures _ _ c.before.before.before.before.before.before.datatype.given.1 _ (c.before.before.before.object_of.ensures _) _ c.before.e.given.1 }
 
 returns-3 : tie.Need-returns-3
-returns-3 c = λ tree goals. record { goes = λ R₀ a. asking 1 (λ r. r.child2) _ c.before.before.before.before.before.before.before.before.before.before.term-record.ensures _ (refl) (object-asks a _ c.before.before.before.before.before.before.before.before.before.count_of.ensures c.before.before.before.before.before.before.before.before.before.before.before.before.before.before.before.requires.1.1.1.1 _ c.before.before.before.before.before.before.before.before.over.ensures _ c.before.before.before.before.before.before.before.before.before.before.term-record.ensures _ _ c.before.before.before.before.before.before.datatype.given.1 _ (c.before.before.before.object_of.ensures _) _ c.before.i.given.1) (omega arith) }
+returns-3 c = λ tree goals. record { goes = λ R₀ a. asking 1 (λ r. r.child2) _ c.before.before.before.before.before.before.before.before.before.before.term-record.ensures _ (refl) (object_asks a _ c.before.before.before.before.before.before.before.before.before.count_of.ensures c.before.before.before.before.before.before.before.before.before.before.before.before.before.before.before.requires.1.1.1.1 _ c.before.before.before.before.before.before.before.before.over.ensures _ c.before.before.before.before.before.before.before.before.before.before.term-record.ensures _ _ c.before.before.before.before.before.before.datatype.given.1 _ (c.before.before.before.object_of.ensures _) _ c.before.i.given.1) (omega arith) }
 
 pub object-spec : {M : Type 1} → statement M
 object-spec = tie.close (tie.spec term-record-requires count-of-requires over-requires enum-known-datatype enum_told at-requires returns object-of-requires enum-known-e enum-known-i returns-2 returns-3)

@@ -1,4 +1,4 @@
-use Rattle.rule.proofs.Functions.{abstracts_data, abstracts-full, abstracts-to}
+use Rattle.rule.proofs.Functions.{abstracts_data, abstracts_full, abstracts_to}
 use mathlib.Core.Path.{subst}
 use Rattle.prop.specs.Room.{TypeIn}
 use Rattle.step.specs.Rooms.{count_of}
@@ -37,7 +37,7 @@ same_length : tie.Need-same-length
 same_length c = search rules
 
 returns-2 : tie.Need-returns-2
-returns-2 c = λ goals work. record { goes = λ R₀ a. abstracts-full a _ c.before.before.before.before.before.before.before.before.before.before.before.before.term-record.ensures _ c.before.before.before.before.before.before.before.before.before.t.given.1 _ _ c.before.before.before.before.before.abstract-over.ensures _ c.before.e.given.1 }
+returns-2 c = λ goals work. record { goes = λ R₀ a. abstracts_full a _ c.before.before.before.before.before.before.before.before.before.before.before.before.term-record.ensures _ c.before.before.before.before.before.before.before.before.before.t.given.1 _ _ c.before.before.before.before.before.abstract-over.ensures _ c.before.e.given.1 }
 
 same-length-2 : tie.Need-same-length-2
 same-length-2 c = search rules
@@ -46,7 +46,7 @@ same-length-3 : tie.Need-same-length-3
 same-length-3 c = search rules
 
 returns-3 : tie.Need-returns-3
-returns-3 c = λ goals work. record { goes = λ R₀ a. (c.before.before.closes.ensures c.before.before.before.before.before.before.before.before.before.before.before.before.before.before.before.before.before.before.before.before.before.args.file.now goals _ work).goes R₀ (abstracts-to a _ c.before.before.before.before.before.before.before.before.before.before.before.before.before.before.before.before.term-record.ensures _ c.before.before.before.before.before.before.before.before.before.before.before.before.before.t.given.1 _ _ c.before.before.before.before.before.before.before.before.before.abstract-over.ensures _ _ _ c.before.before.before.before.before.rule.given.1) }
+returns-3 c = λ goals work. record { goes = λ R₀ a. (c.before.before.closes.ensures c.before.before.before.before.before.before.before.before.before.before.before.before.before.before.before.before.before.before.before.before.before.args.file.now goals _ work).goes R₀ (abstracts_to a _ c.before.before.before.before.before.before.before.before.before.before.before.before.before.before.before.before.term-record.ensures _ c.before.before.before.before.before.before.before.before.before.before.before.before.before.t.given.1 _ _ c.before.before.before.before.before.before.before.before.before.abstract-over.ensures _ _ _ c.before.before.before.before.before.rule.given.1) }
 
 pub abstracts-spec : {M : Type 1} → statement M
 abstracts-spec = tie.close (tie.spec term-record-requires enum-known-t enum_told at-requires returns abstract-over-requires enum-known-e enum-known-rule closes-requires same_length returns-2 same-length-2 same-length-3 returns-3)

@@ -1,4 +1,4 @@
-use Rattle.rule.proofs.Leaves.{ident-unknown, ident-has}
+use Rattle.rule.proofs.Leaves.{ident_unknown, ident_has}
 use borrow.Author.Rules.{rules}
 use Rattle.rule.proofs.ident.synthesize.Statement.{statement}
 use Rattle.rule.proofs.ident.synthesize.Tie as tie
@@ -22,7 +22,7 @@ at-requires : tie.Need-at-requires
 at-requires c κs = search rules
 
 returns : tie.Need-returns
-returns c = λ goals ps. record { begins = λ rd. ident-unknown rd c.before.before.before.before.before.before.before.before.before.before.requires.1.1.1 _ c.before.before.before.before.before.before.term-record.ensures _ c.before.before.before.get-by-name.ensures c.before.enum_told.given.1 _ c.at.ensures }
+returns c = λ goals ps. record { begins = λ rd. ident_unknown rd c.before.before.before.before.before.before.before.before.before.before.requires.1.1.1 _ c.before.before.before.before.before.before.term-record.ensures _ c.before.before.before.get-by-name.ensures c.before.enum_told.given.1 _ c.at.ensures }
 
 node-requires : tie.Need-node-requires
 node-requires c κs = search rules
@@ -37,7 +37,7 @@ same_length : tie.Need-same-length
 same_length c = search rules
 
 returns-2 : tie.Need-returns-2
-returns-2 c = λ goals ps. record { begins = λ rd. ident-has rd c.before.before.before.before.before.before.before.before.before.before.before.before.before.before.before.before.before.requires.1.1.1 _ c.before.before.before.before.before.before.before.before.before.before.before.before.before.term-record.ensures _ c.before.before.before.before.before.before.before.before.before.before.get-by-name.ensures _ c.before.before.before.before.before.before.before.before.e.given.1 _ _ _ c.before.before.before.before.before.node.ensures c.before.before.before.put-node.ensures c.inner.ensures }
+returns-2 c = λ goals ps. record { begins = λ rd. ident_has rd c.before.before.before.before.before.before.before.before.before.before.before.before.before.before.before.before.before.requires.1.1.1 _ c.before.before.before.before.before.before.before.before.before.before.before.before.before.term-record.ensures _ c.before.before.before.before.before.before.before.before.before.before.get-by-name.ensures _ c.before.before.before.before.before.before.before.before.e.given.1 _ _ _ c.before.before.before.before.before.node.ensures c.before.before.before.put-node.ensures c.inner.ensures }
 
 pub synthesize-spec : {M : Type 1} → statement M
 synthesize-spec = tie.close (tie.spec term-record-requires cast-get-by-name get-by_name-requires enum-known-e enum_told at-requires returns node-requires put-node-requires inner-requires same_length returns-2)

@@ -1,4 +1,4 @@
-use Rattle.rule.proofs.Lets.{let_refused, let-asks}
+use Rattle.rule.proofs.Lets.{let_refused, let_asks}
 use Rattle.rule.proofs.Going.{asking}
 use mathlib.Core.Path.{refl}
 use native.Mathlib.Omega.{arith}
@@ -37,7 +37,7 @@ same-length-4 : tie.Need-same-length-4
 same-length-4 c = search rules
 
 returns-2 : tie.Need-returns-2
-returns-2 c = λ tree goals. record { goes = λ R₀ a. asking 1 (λ r. r.child2) _ c.before.before.before.before.before.before.before.before.before.before.before.before.term-record.ensures _ (refl) (let-asks a _ c.before.before.before.before.before.before.before.before.before.before.before.before.term-record.ensures _ _ _ c.before.before.before.before.before.before.before.before.before.open-let.ensures _ c.before.before.before.s.given.1) (omega arith) }
+returns-2 c = λ tree goals. record { goes = λ R₀ a. asking 1 (λ r. r.child2) _ c.before.before.before.before.before.before.before.before.before.before.before.before.term-record.ensures _ (refl) (let_asks a _ c.before.before.before.before.before.before.before.before.before.before.before.before.term-record.ensures _ _ _ c.before.before.before.before.before.before.before.before.before.open-let.ensures _ c.before.before.before.s.given.1) (omega arith) }
 
 pub body-spec : {M : Type 1} → statement M
 body-spec = tie.close (tie.spec term-record-requires open-let-requires enum-known-e enum-known-s add-t21 same_length same-length-2 returns same-length-3 same-length-4 returns-2)

@@ -1,4 +1,4 @@
-use Rattle.rule.proofs.Pairs.{both_second, both_first, both-full, both-made}
+use Rattle.rule.proofs.Pairs.{both_second, both_first, both_full, both_made}
 use Rattle.step.proofs.Moves.{loaded_arena, loaded_left, made_more, made_few}
 use mathlib.Core.Path.{subst}
 use Rattle.prop.specs.Room.{TypeIn}
@@ -55,7 +55,7 @@ same_length : tie.Need-same-length
 same_length c = search rules
 
 returns-3 : tie.Need-returns-3
-returns-3 c = λ goals work. record { goes = λ R₀ a. both-full a _ c.before.before.before.before.before.before.before.before.before.before.before.before.before.u.given.1 _ c.before.before.before.before.before.before.before.before.before.before.t.given.1 _ c.before.before.before.before.before.before.before.before.count_of.ensures _ c.before.before.before.before.before.before.left-of.ensures _ _ c.before.before.before.before.before.make-and.ensures c.before.enum-told3.given.1 _ c.at3.ensures }
+returns-3 c = λ goals work. record { goes = λ R₀ a. both_full a _ c.before.before.before.before.before.before.before.before.before.before.before.before.before.u.given.1 _ c.before.before.before.before.before.before.before.before.before.before.t.given.1 _ c.before.before.before.before.before.before.before.before.count_of.ensures _ c.before.before.before.before.before.before.left-of.ensures _ _ c.before.before.before.before.before.make-and.ensures c.before.enum-told3.given.1 _ c.at3.ensures }
 
 grown-requires : tie.Need-grown-requires
 grown-requires c κs = (made_more c.before.before.before.before.before.before.before.before.before.before.before.before.before.before.before.before.before.before.before.before.args.file.now _ _ _ _ c.before.before.before.before.before.before.before.before.before.before.before.before.before.before.before.before.before.before.before.before.args.st _ _ _ c.before.before.before.before.before.before.before.before.before.count_of.ensures c.before.before.before.before.before.before.before.left-of.ensures c.before.before.before.before.before.before.make-and.ensures _ _ c.before.before.m.given.1, made_few c.before.before.before.before.before.before.before.before.before.before.before.before.before.before.before.before.before.before.before.before.args.file.now _ _ _ _ c.before.before.before.before.before.before.before.before.before.before.before.before.before.before.before.before.before.before.before.before.args.st _ _ _ c.before.before.before.before.before.before.before.before.before.count_of.ensures c.before.before.before.before.before.before.before.left-of.ensures c.before.before.before.before.before.before.make-and.ensures _ _ c.before.before.m.given.1 c.before.before.before.before.before.before.before.before.before.before.before.before.before.before.before.before.before.before.before.before.requires.0.0.counted)
@@ -70,7 +70,7 @@ same-length-3 : tie.Need-same-length-3
 same-length-3 c = search rules
 
 returns-4 : tie.Need-returns-4
-returns-4 c = λ goals work. record { goes = λ R₀ a. (c.before.before.by.ensures c.before.before.before.before.before.before.before.before.before.before.before.before.before.before.before.before.before.before.before.before.before.before.before.before.args.file.now goals _ work).goes R₀ (both-made a _ c.before.before.before.before.before.before.before.before.before.before.before.before.before.before.before.before.before.before.u.given.1 _ c.before.before.before.before.before.before.before.before.before.before.before.before.before.before.before.t.given.1 _ c.before.before.before.before.before.before.before.before.before.before.before.before.before.count_of.ensures _ c.before.before.before.before.before.before.before.before.before.before.before.left-of.ensures _ _ c.before.before.before.before.before.before.before.before.before.before.make-and.ensures _ _ c.before.before.before.before.before.before.m.given.1 _ c.before.before.before.grown.ensures) }
+returns-4 c = λ goals work. record { goes = λ R₀ a. (c.before.before.by.ensures c.before.before.before.before.before.before.before.before.before.before.before.before.before.before.before.before.before.before.before.before.before.before.before.before.args.file.now goals _ work).goes R₀ (both_made a _ c.before.before.before.before.before.before.before.before.before.before.before.before.before.before.before.before.before.before.u.given.1 _ c.before.before.before.before.before.before.before.before.before.before.before.before.before.before.before.t.given.1 _ c.before.before.before.before.before.before.before.before.before.before.before.before.before.count_of.ensures _ c.before.before.before.before.before.before.before.before.before.before.before.left-of.ensures _ _ c.before.before.before.before.before.before.before.before.before.before.make-and.ensures _ _ c.before.before.before.before.before.before.m.given.1 _ c.before.before.before.grown.ensures) }
 
 pub both-spec : {M : Type 1} → statement M
 both-spec = tie.close (tie.spec enum-known-u enum_told at-requires returns enum-known-t enum-told-2 at-requires-2 returns-2 count-of-requires left-of-requires make-and-requires enum-known-m enum-told-3 at-requires-3 same_length returns-3 grown-requires by-requires same-length-2 same-length-3 returns-4)

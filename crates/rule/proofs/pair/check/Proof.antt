@@ -1,4 +1,4 @@
-use Rattle.rule.proofs.Pairs.{pair-begins}
+use Rattle.rule.proofs.Pairs.{pair_begins}
 use Rattle.rule.proofs.Going.{asking}
 use Rattle.step.proofs.Moves.{loaded_arena, loaded_type}
 use mathlib.Core.Path.{subst}
@@ -40,7 +40,7 @@ same-length-2 : tie.Need-same-length-2
 same-length-2 c = search rules
 
 returns-2 : tie.Need-returns-2
-returns-2 c = λ tree goals. record { begins = λ rd. asking 3 (λ r. r.child1) _ c.before.before.term-record.ensures _ c.inner.ensures (pair-begins rd c.before.before.before.before.before.before.before.before.before.before.before.before.requires.1.1.1 c.before.before.before.before.before.before.before.before.before.before.before.before.args.wanted c.before.before.before.before.before.before.before.before.before.before.before.before.requires.1.0.1 _ c.before.before.before.before.before.before.before.before.count_of.ensures _ c.before.before.before.before.before.before.split.ensures _ _ c.before.before.before.before.a.given.1) (omega arith) }
+returns-2 c = λ tree goals. record { begins = λ rd. asking 3 (λ r. r.child1) _ c.before.before.term-record.ensures _ c.inner.ensures (pair_begins rd c.before.before.before.before.before.before.before.before.before.before.before.before.requires.1.1.1 c.before.before.before.before.before.before.before.before.before.before.before.before.args.wanted c.before.before.before.before.before.before.before.before.before.before.before.before.requires.1.0.1 _ c.before.before.before.before.before.before.before.before.count_of.ensures _ c.before.before.before.before.before.before.split.ensures _ _ c.before.before.before.before.a.given.1) (omega arith) }
 
 pub check-spec : {M : Type 1} → statement M
 check-spec = tie.close (tie.spec count-of-requires split-requires enum-known-a enum_told exists-requires same_length returns term-record-requires inner-requires same-length-2 returns-2)

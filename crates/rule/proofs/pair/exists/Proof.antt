@@ -1,8 +1,8 @@
 use Rattle.step.specs.declared.state.Want.TheVariants.{Check}
-use Rattle.rule.proofs.Pairs.{exists-other, exists-object, exists-full, exists-begins}
+use Rattle.rule.proofs.Pairs.{exists_other, exists_object, exists_full, exists_begins}
 use Rattle.rule.proofs.Going.{asking}
 use Rattle.step.proofs.Moves.{loaded_arena, loaded_type, loaded_left, put_more, put_few}
-use Rattle.step.proofs.Terms.{pair-first}
+use Rattle.step.proofs.Terms.{pair_first}
 use Rattle.step.specs.Steps.{ObjectAs}
 use Rattle.layout.specs.declared.record.TermRecord.{TermRecord}
 use Rattle.layout.specs.File.{terms}
@@ -34,13 +34,13 @@ same_length : tie.Need-same-length
 same_length c = search rules
 
 returns : tie.Need-returns
-returns c = λ tree goals. record { begins = λ rd. exists-other rd c.before.before.before.before.before.before.before.before.before.requires.1.1.1.0 c.before.before.before.before.before.before.before.before.before.args.wanted c.before.before.before.before.before.before.before.before.before.requires.1.0.1 c.before.before.before.before.before.before.before.before.before.requires.1.1.1.1 _ c.before.before.before.before.before.count_of.ensures _ c.before.before.before.over.ensures c.before.enum_told.given.1 _ c.at.ensures }
+returns c = λ tree goals. record { begins = λ rd. exists_other rd c.before.before.before.before.before.before.before.before.before.requires.1.1.1.0 c.before.before.before.before.before.before.before.before.before.args.wanted c.before.before.before.before.before.before.before.before.before.requires.1.0.1 c.before.before.before.before.before.before.before.before.before.requires.1.1.1.1 _ c.before.before.before.before.before.count_of.ensures _ c.before.before.before.over.ensures c.before.enum_told.given.1 _ c.at.ensures }
 
 term-record-requires : tie.Need-term-record-requires
 term-record-requires c κs = search rules
 
 object-of-requires : tie.Need-object-of-requires
-object-of-requires c κs = (c.before.before.before.before.before.before.before.before.before.before.before.requires.0.0.0, (subst⁻¹ (λ (r : TermRecord). r.child1.0 < terms c.before.before.before.before.before.before.before.before.before.before.before.args.file.now) c.before.term-record.ensures (pair-first c.before.before.before.before.before.before.before.before.before.before.before.requires.0.0.0 c.before.before.before.before.before.before.before.before.before.before.before.requires.0.0.1 c.before.before.before.before.before.before.before.before.before.before.before.requires.1.1.1.0).1, c.before.before.before.before.before.before.before.before.before.before.before.requires.1.1.0))
+object-of-requires c κs = (c.before.before.before.before.before.before.before.before.before.before.before.requires.0.0.0, (subst⁻¹ (λ (r : TermRecord). r.child1.0 < terms c.before.before.before.before.before.before.before.before.before.before.before.args.file.now) c.before.term-record.ensures (pair_first c.before.before.before.before.before.before.before.before.before.before.before.requires.0.0.0 c.before.before.before.before.before.before.before.before.before.before.before.requires.0.0.1 c.before.before.before.before.before.before.before.before.before.before.before.requires.1.1.1.0).1, c.before.before.before.before.before.before.before.before.before.before.before.requires.1.1.0))
 
 enum-known-r : tie.Need-enum-known-r
 enum-known-r c = search rules
@@ -67,7 +67,7 @@ same-length-2 : tie.Need-same-length-2
 same-length-2 c = search rules
 
 returns-2 : tie.Need-returns-2
-returns-2 c = λ tree goals. record { begins = λ rd. exists-full rd c.before.before.before.before.before.before.before.before.before.before.before.before.before.before.before.before.before.before.before.before.before.before.before.requires.1.1.1.0 c.before.before.before.before.before.before.before.before.before.before.before.before.before.before.before.before.before.before.before.before.before.before.before.args.wanted c.before.before.before.before.before.before.before.before.before.before.before.before.before.before.before.before.before.before.before.before.before.before.before.requires.1.0.1 c.before.before.before.before.before.before.before.before.before.before.before.before.before.before.before.before.before.before.before.before.before.before.before.requires.1.1.1.1 _ c.before.before.before.before.before.before.before.before.before.before.before.before.before.before.before.before.before.before.before.count_of.ensures _ c.before.before.before.before.before.before.before.before.before.before.before.before.before.before.before.before.before.over.ensures _ _ c.before.before.before.before.before.before.before.before.before.before.before.before.before.before.before.datatype.given.1 _ (subst (λ (r : TermRecord). ObjectAs c.before.before.before.before.before.before.before.before.before.before.before.before.before.before.before.before.before.before.before.before.before.before.before.args.file.now c.before.before.before.before.before.before.before.before.before.before.before.before.before.before.before.before.before.before.before.before.before.before.before.args.props.now c.before.before.before.before.before.before.before.before.before.before.before.before.before.before.before.before.before.before.before.before.before.before.before.args.work.now (Check c.before.before.before.before.before.before.before.before.before.before.before.before.before.before.before.before.before.before.before.before.before.before.before.args.wanted) r.child1.0 c.before.before.before.before.before.before.before.before.before.before.before.before.before.before.before.before.before.before.before.before.before.before.before.args.st c.before.before.before.before.before.before.before.before.before.before.before.object_of.result) c.before.before.before.before.before.before.before.before.before.before.before.before.before.term-record.ensures (c.before.before.before.before.before.before.before.before.before.before.before.object_of.ensures c.before.before.before.before.before.before.before.before.before.before.before.before.before.before.before.before.before.before.before.before.before.before.before.args.props.now)) _ c.before.before.before.before.before.before.before.before.before.i.given.1 _ c.before.before.before.before.before.before.left-of.ensures _ _ c.before.before.before.before.before.put_in.ensures c.before.enum-told2.given.1 _ c.at2.ensures }
+returns-2 c = λ tree goals. record { begins = λ rd. exists_full rd c.before.before.before.before.before.before.before.before.before.before.before.before.before.before.before.before.before.before.before.before.before.before.before.requires.1.1.1.0 c.before.before.before.before.before.before.before.before.before.before.before.before.before.before.before.before.before.before.before.before.before.before.before.args.wanted c.before.before.before.before.before.before.before.before.before.before.before.before.before.before.before.before.before.before.before.before.before.before.before.requires.1.0.1 c.before.before.before.before.before.before.before.before.before.before.before.before.before.before.before.before.before.before.before.before.before.before.before.requires.1.1.1.1 _ c.before.before.before.before.before.before.before.before.before.before.before.before.before.before.before.before.before.before.before.count_of.ensures _ c.before.before.before.before.before.before.before.before.before.before.before.before.before.before.before.before.before.over.ensures _ _ c.before.before.before.before.before.before.before.before.before.before.before.before.before.before.before.datatype.given.1 _ (subst (λ (r : TermRecord). ObjectAs c.before.before.before.before.before.before.before.before.before.before.before.before.before.before.before.before.before.before.before.before.before.before.before.args.file.now c.before.before.before.before.before.before.before.before.before.before.before.before.before.before.before.before.before.before.before.before.before.before.before.args.props.now c.before.before.before.before.before.before.before.before.before.before.before.before.before.before.before.before.before.before.before.before.before.before.before.args.work.now (Check c.before.before.before.before.before.before.before.before.before.before.before.before.before.before.before.before.before.before.before.before.before.before.before.args.wanted) r.child1.0 c.before.before.before.before.before.before.before.before.before.before.before.before.before.before.before.before.before.before.before.before.before.before.before.args.st c.before.before.before.before.before.before.before.before.before.before.before.object_of.result) c.before.before.before.before.before.before.before.before.before.before.before.before.before.term-record.ensures (c.before.before.before.before.before.before.before.before.before.before.before.object_of.ensures c.before.before.before.before.before.before.before.before.before.before.before.before.before.before.before.before.before.before.before.before.before.before.before.args.props.now)) _ c.before.before.before.before.before.before.before.before.before.i.given.1 _ c.before.before.before.before.before.before.left-of.ensures _ _ c.before.before.before.before.before.put_in.ensures c.before.enum-told2.given.1 _ c.at2.ensures }
 
 grown-requires : tie.Need-grown-requires
 grown-requires c κs = (put_more c.before.before.before.before.before.before.before.before.before.before.before.before.before.before.before.before.before.before.before.before.before.before.before.args.file.now c.before.before.before.before.before.before.before.before.before.before.before.before.before.before.before.before.before.before.before.before.before.before.before.args.props.now c.before.before.before.before.before.put_in.new.0 c.before.before.before.before.before.before.before.before.before.before.before.before.before.before.before.before.before.before.before.count_of.result c.before.before.before.before.before.before.left-of.result c.before.before.before.before.before.before.before.before.before.before.before.before.before.before.before.datatype.given.0.1.0.0 c.before.before.before.before.before.before.before.before.before.i.given.0.0.0 c.before.before.before.before.before.before.before.before.before.before.before.before.before.before.before.before.before.before.before.before.before.before.before.args.st c.before.before.before.before.before.put_in.result c.before.before.before.before.before.before.before.before.before.before.before.before.before.before.before.before.before.before.before.count_of.ensures c.before.before.before.before.before.before.left-of.ensures c.before.before.before.before.before.put_in.ensures _ _ c.before.m.given.1, put_few c.before.before.before.before.before.before.before.before.before.before.before.before.before.before.before.before.before.before.before.before.before.before.before.args.file.now c.before.before.before.before.before.before.before.before.before.before.before.before.before.before.before.before.before.before.before.before.before.before.before.args.props.now c.before.before.before.before.before.put_in.new.0 c.before.before.before.before.before.before.before.before.before.before.before.before.before.before.before.before.before.before.before.count_of.result c.before.before.before.before.before.before.left-of.result c.before.before.before.before.before.before.before.before.before.before.before.before.before.before.before.datatype.given.0.1.0.0 c.before.before.before.before.before.before.before.before.before.i.given.0.0.0 c.before.before.before.before.before.before.before.before.before.before.before.before.before.before.before.before.before.before.before.before.before.before.before.args.st c.before.before.before.before.before.put_in.result c.before.before.before.before.before.before.before.before.before.before.before.before.before.before.before.before.before.before.before.count_of.ensures c.before.before.before.before.before.before.left-of.ensures c.before.before.before.before.before.put_in.ensures _ _ c.before.m.given.1 c.before.before.before.before.before.before.before.before.before.before.before.before.before.before.before.before.before.before.before.before.before.before.before.requires.0.0.0.counted)
@@ -79,13 +79,13 @@ same-length-3 : tie.Need-same-length-3
 same-length-3 c = search rules
 
 returns-3 : tie.Need-returns-3
-returns-3 c = λ tree goals. record { begins = λ rd. exists-object rd c.before.before.before.before.before.before.before.before.before.before.before.before.before.before.before.requires.1.1.1.0 c.before.before.before.before.before.before.before.before.before.before.before.before.before.before.before.args.wanted c.before.before.before.before.before.before.before.before.before.before.before.before.before.before.before.requires.1.0.1 c.before.before.before.before.before.before.before.before.before.before.before.before.before.before.before.requires.1.1.1.1 _ c.before.before.before.before.before.before.before.before.before.before.before.count_of.ensures _ c.before.before.before.before.before.before.before.before.before.over.ensures _ _ c.before.before.before.before.before.before.before.datatype.given.1 _ (subst (λ (r : TermRecord). ObjectAs c.before.before.before.before.before.before.before.before.before.before.before.before.before.before.before.args.file.now c.before.before.before.before.before.before.before.before.before.before.before.before.before.before.before.args.props.now c.before.before.before.before.before.before.before.before.before.before.before.before.before.before.before.args.work.now (Check c.before.before.before.before.before.before.before.before.before.before.before.before.before.before.before.args.wanted) r.child1.0 c.before.before.before.before.before.before.before.before.before.before.before.before.before.before.before.args.st c.before.before.before.object_of.result) c.before.before.before.before.before.term-record.ensures (c.before.before.before.object_of.ensures c.before.before.before.before.before.before.before.before.before.before.before.before.before.before.before.args.props.now)) _ c.before.r.given.1 }
+returns-3 c = λ tree goals. record { begins = λ rd. exists_object rd c.before.before.before.before.before.before.before.before.before.before.before.before.before.before.before.requires.1.1.1.0 c.before.before.before.before.before.before.before.before.before.before.before.before.before.before.before.args.wanted c.before.before.before.before.before.before.before.before.before.before.before.before.before.before.before.requires.1.0.1 c.before.before.before.before.before.before.before.before.before.before.before.before.before.before.before.requires.1.1.1.1 _ c.before.before.before.before.before.before.before.before.before.before.before.count_of.ensures _ c.before.before.before.before.before.before.before.before.before.over.ensures _ _ c.before.before.before.before.before.before.before.datatype.given.1 _ (subst (λ (r : TermRecord). ObjectAs c.before.before.before.before.before.before.before.before.before.before.before.before.before.before.before.args.file.now c.before.before.before.before.before.before.before.before.before.before.before.before.before.before.before.args.props.now c.before.before.before.before.before.before.before.before.before.before.before.before.before.before.before.args.work.now (Check c.before.before.before.before.before.before.before.before.before.before.before.before.before.before.before.args.wanted) r.child1.0 c.before.before.before.before.before.before.before.before.before.before.before.before.before.before.before.args.st c.before.before.before.object_of.result) c.before.before.before.before.before.term-record.ensures (c.before.before.before.object_of.ensures c.before.before.before.before.before.before.before.before.before.before.before.before.before.before.before.args.props.now)) _ c.before.r.given.1 }
 
 same-length-4 : tie.Need-same-length-4
 same-length-4 c = search rules
 
 returns-4 : tie.Need-returns-4
-returns-4 c = λ tree goals. record { begins = λ rd. asking 3 (λ r. r.child1) _ c.before.before.before.before.before.before.before.before.before.before.before.before.before.before.before.term-record.ensures _ c.inner.ensures (exists-begins rd c.before.before.before.before.before.before.before.before.before.before.before.before.before.before.before.before.before.before.before.before.before.before.before.before.before.requires.1.1.1.0 c.before.before.before.before.before.before.before.before.before.before.before.before.before.before.before.before.before.before.before.before.before.before.before.before.before.args.wanted c.before.before.before.before.before.before.before.before.before.before.before.before.before.before.before.before.before.before.before.before.before.before.before.before.before.requires.1.0.1 c.before.before.before.before.before.before.before.before.before.before.before.before.before.before.before.before.before.before.before.before.before.before.before.before.before.requires.1.1.1.1 _ c.before.before.before.before.before.before.before.before.before.before.before.before.before.before.before.before.before.before.before.before.before.count_of.ensures _ c.before.before.before.before.before.before.before.before.before.before.before.before.before.before.before.before.before.before.before.over.ensures _ _ c.before.before.before.before.before.before.before.before.before.before.before.before.before.before.before.before.before.datatype.given.1 _ (subst (λ (r : TermRecord). ObjectAs c.before.before.before.before.before.before.before.before.before.before.before.before.before.before.before.before.before.before.before.before.before.before.before.before.before.args.file.now c.before.before.before.before.before.before.before.before.before.before.before.before.before.before.before.before.before.before.before.before.before.before.before.before.before.args.props.now c.before.before.before.before.before.before.before.before.before.before.before.before.before.before.before.before.before.before.before.before.before.before.before.before.before.args.work.now (Check c.before.before.before.before.before.before.before.before.before.before.before.before.before.before.before.before.before.before.before.before.before.before.before.before.before.args.wanted) r.child1.0 c.before.before.before.before.before.before.before.before.before.before.before.before.before.before.before.before.before.before.before.before.before.before.before.before.before.args.st c.before.before.before.before.before.before.before.before.before.before.before.before.before.object_of.result) c.before.before.before.before.before.before.before.before.before.before.before.before.before.before.before.term-record.ensures (c.before.before.before.before.before.before.before.before.before.before.before.before.before.object_of.ensures c.before.before.before.before.before.before.before.before.before.before.before.before.before.before.before.before.before.before.before.before.before.before.before.before.before.args.props.now)) _ c.before.before.before.before.before.before.before.before.before.before.before.i.given.1 _ c.before.before.before.before.before.before.before.before.left-of.ensures _ _ c.before.before.before.before.before.before.before.put_in.ensures _ _ c.before.before.before.m.given.1 _ c.before.grown.ensures) (omega arith) }
+returns-4 c = λ tree goals. record { begins = λ rd. asking 3 (λ r. r.child1) _ c.before.before.before.before.before.before.before.before.before.before.before.before.before.before.before.term-record.ensures _ c.inner.ensures (exists_begins rd c.before.before.before.before.before.before.before.before.before.before.before.before.before.before.before.before.before.before.before.before.before.before.before.before.before.requires.1.1.1.0 c.before.before.before.before.before.before.before.before.before.before.before.before.before.before.before.before.before.before.before.before.before.before.before.before.before.args.wanted c.before.before.before.before.before.before.before.before.before.before.before.before.before.before.before.before.before.before.before.before.before.before.before.before.before.requires.1.0.1 c.before.before.before.before.before.before.before.before.before.before.before.before.before.before.before.before.before.before.before.before.before.before.before.before.before.requires.1.1.1.1 _ c.before.before.before.before.before.before.before.before.before.before.before.before.before.before.before.before.before.before.before.before.before.count_of.ensures _ c.before.before.before.before.before.before.before.before.before.before.before.before.before.before.before.before.before.before.before.over.ensures _ _ c.before.before.before.before.before.before.before.before.before.before.before.before.before.before.before.before.before.datatype.given.1 _ (subst (λ (r : TermRecord). ObjectAs c.before.before.before.before.before.before.before.before.before.before.before.before.before.before.before.before.before.before.before.before.before.before.before.before.before.args.file.now c.before.before.before.before.before.before.before.before.before.before.before.before.before.before.before.before.before.before.before.before.before.before.before.before.before.args.props.now c.before.before.before.before.before.before.before.before.before.before.before.before.before.before.before.before.before.before.before.before.before.before.before.before.before.args.work.now (Check c.before.before.before.before.before.before.before.before.before.before.before.before.before.before.before.before.before.before.before.before.before.before.before.before.before.args.wanted) r.child1.0 c.before.before.before.before.before.before.before.before.before.before.before.before.before.before.before.before.before.before.before.before.before.before.before.before.before.args.st c.before.before.before.before.before.before.before.before.before.before.before.before.before.object_of.result) c.before.before.before.before.before.before.before.before.before.before.before.before.before.before.before.term-record.ensures (c.before.before.before.before.before.before.before.before.before.before.before.before.before.object_of.ensures c.before.before.before.before.before.before.before.before.before.before.before.before.before.before.before.before.before.before.before.before.before.before.before.before.before.args.props.now)) _ c.before.before.before.before.before.before.before.before.before.before.before.i.given.1 _ c.before.before.before.before.before.before.before.before.left-of.ensures _ _ c.before.before.before.before.before.before.before.put_in.ensures _ _ c.before.before.before.m.given.1 _ c.before.grown.ensures) (omega arith) }
 
 pub exists-spec : {M : Type 1} → statement M
 exists-spec = tie.close (tie.spec count-of-requires over-requires enum-known-datatype enum_told at-requires same_length returns term-record-requires object-of-requires enum-known-r enum-known-i left-of-requires put-in-requires enum-known-m enum-told-2 at-requires-2 same-length-2 returns-2 grown-requires inner-requires same-length-3 returns-3 same-length-4 returns-4)

@@ -1,4 +1,4 @@
-use Rattle.rule.proofs.Projections.{part_other, part-first, part-second}
+use Rattle.rule.proofs.Projections.{part_other, part_first, part_second}
 use Rattle.step.proofs.Moves.{loaded_arena, loaded_type}
 use borrow.Author.Tests.{eq-eqb, ne_eqb}
 use borrow.Author.Rules.{rules}
@@ -36,13 +36,13 @@ same_length : tie.Need-same-length
 same_length c = search rules
 
 returns-2 : tie.Need-returns-2
-returns-2 c = λ goals work. record { goes = λ R₀ a. (c.before.before.by.ensures c.before.before.before.before.before.before.before.before.before.before.before.before.before.before.before.before.args.file.now goals _ work).goes R₀ (part-first a _ c.before.before.before.before.before.before.before.before.before.before.before.count_of.ensures _ c.before.before.before.before.before.before.before.before.before.before.split.ensures _ _ c.before.before.before.before.before.before.before.before.a.given.1 _ c.before.before.before.before.before.before.term-record.ensures (eq-eqb _ 2 c.before.before.before.before.if1.true)) }
+returns-2 c = λ goals work. record { goes = λ R₀ a. (c.before.before.by.ensures c.before.before.before.before.before.before.before.before.before.before.before.before.before.before.before.before.args.file.now goals _ work).goes R₀ (part_first a _ c.before.before.before.before.before.before.before.before.before.before.before.count_of.ensures _ c.before.before.before.before.before.before.before.before.before.before.split.ensures _ _ c.before.before.before.before.before.before.before.before.a.given.1 _ c.before.before.before.before.before.before.term-record.ensures (eq-eqb _ 2 c.before.before.before.before.if1.true)) }
 
 same-length-2 : tie.Need-same-length-2
 same-length-2 c = search rules
 
 returns-3 : tie.Need-returns-3
-returns-3 c = λ goals work. record { goes = λ R₀ a. (c.before.before.by2.ensures c.before.before.before.before.before.before.before.before.before.before.before.before.before.before.before.before.args.file.now goals _ work).goes R₀ (part-second a _ c.before.before.before.before.before.before.before.before.before.before.before.count_of.ensures _ c.before.before.before.before.before.before.before.before.before.before.split.ensures _ _ c.before.before.before.before.before.before.before.before.a.given.1 _ c.before.before.before.before.before.before.term-record.ensures (ne_eqb _ 2 c.before.before.before.before.if1.false)) }
+returns-3 c = λ goals work. record { goes = λ R₀ a. (c.before.before.by2.ensures c.before.before.before.before.before.before.before.before.before.before.before.before.before.before.before.before.args.file.now goals _ work).goes R₀ (part_second a _ c.before.before.before.before.before.before.before.before.before.before.before.count_of.ensures _ c.before.before.before.before.before.before.before.before.before.before.split.ensures _ _ c.before.before.before.before.before.before.before.before.a.given.1 _ c.before.before.before.before.before.before.term-record.ensures (ne_eqb _ 2 c.before.before.before.before.if1.false)) }
 
 pub part-spec : {M : Type 1} → statement M
 part-spec = tie.close (tie.spec count-of-requires split-requires enum-known-a enum_told at-requires returns term-record-requires by-requires by-requires-2 same_length returns-2 same-length-2 returns-3)

@@ -1,4 +1,4 @@
-use Rattle.rule.proofs.Leaves.{sorry-fits}
+use Rattle.rule.proofs.Leaves.{sorry_fits}
 use mathlib.Core.Path.{ap}
 use Rattle.step.specs.declared.state.State.{State}
 use Prim.Native.Nat.{◌+◌}
@@ -38,7 +38,7 @@ same-length-3 : tie.Need-same-length-3
 same-length-3 c = search rules
 
 returns : tie.Need-returns
-returns c = λ l ps among kind. record { begins = λ rd. sorry-fits rd _ among kind _ _ _ _ c.before.before.before.before.before.before.before.before.before.before.before.before.before.before.before.node.ensures c.before.before.before.before.before.before.before.before.before.before.before.before.before.put-node.ensures c.before.before.before.before.before.before.before.before.before.goal-of.ensures c.before.before.before.before.before.before.before.before.put-goal.ensures _ c.before.before.before.before.picture.ensures _ (ap (λ (s : State). record { records = s.records; goals = s.goals + 1; serials = s.serials; made = s.made; context = s.context; asked = s.asked }) c.before.inner.ensures) }
+returns c = λ l ps among kind. record { begins = λ rd. sorry_fits rd _ among kind _ _ _ _ c.before.before.before.before.before.before.before.before.before.before.before.before.before.before.before.node.ensures c.before.before.before.before.before.before.before.before.before.before.before.before.before.put-node.ensures c.before.before.before.before.before.before.before.before.before.goal-of.ensures c.before.before.before.before.before.before.before.before.put-goal.ensures _ c.before.before.before.before.picture.ensures _ (ap (λ (s : State). record { records = s.records; goals = s.goals + 1; serials = s.serials; made = s.made; context = s.context; asked = s.asked }) c.before.inner.ensures) }
 
 pub check-spec : {M : Type 1} → statement M
 check-spec = tie.close (tie.spec node-requires put-node-requires goal-of-requires put-goal-requires picture-requires inner-requires add-s same_length same-length-2 same-length-3 returns)

@@ -1,4 +1,4 @@
-use Rattle.rule.proofs.Leaves.{true-full, true-has}
+use Rattle.rule.proofs.Leaves.{true_full, true_has}
 use Rattle.step.proofs.Moves.{loaded_arena, loaded_left, made_more, made_few}
 use native.Mathlib.Omega.{arith}
 use borrow.Author.Rules.{rules}
@@ -27,7 +27,7 @@ same_length : tie.Need-same-length
 same_length c = search rules
 
 returns : tie.Need-returns
-returns c = λ goals work. record { begins = λ rd. true-full rd c.before.before.before.before.before.before.before.before.before.before.before.before.requires.1.1.1 _ _ _ _ c.before.before.before.before.before.before.before.before.count_of.ensures c.before.before.before.before.before.before.left-of.ensures c.before.before.before.before.before.make-constant.ensures c.before.enum_told.given.1 _ c.at.ensures }
+returns c = λ goals work. record { begins = λ rd. true_full rd c.before.before.before.before.before.before.before.before.before.before.before.before.requires.1.1.1 _ _ _ _ c.before.before.before.before.before.before.before.before.count_of.ensures c.before.before.before.before.before.before.left-of.ensures c.before.before.before.before.before.make-constant.ensures c.before.enum_told.given.1 _ c.at.ensures }
 
 node-requires : tie.Need-node-requires
 node-requires c κs = search rules
@@ -48,7 +48,7 @@ same-length-3 : tie.Need-same-length-3
 same-length-3 c = search rules
 
 returns-2 : tie.Need-returns-2
-returns-2 c = λ goals work. record { begins = λ rd. true-has rd c.before.before.before.before.before.before.before.before.before.before.before.before.before.before.before.before.before.before.before.requires.1.1.1 _ _ _ _ c.before.before.before.before.before.before.before.before.before.before.before.before.before.before.before.count_of.ensures c.before.before.before.before.before.before.before.before.before.before.before.before.before.left-of.ensures c.before.before.before.before.before.before.before.before.before.before.before.before.make-constant.ensures _ _ _ c.before.before.before.before.before.before.before.before.m.given.1 c.before.grown.ensures _ _ _ c.before.before.before.before.before.before.node.ensures c.before.before.before.before.put-node.ensures c.inner.ensures }
+returns-2 c = λ goals work. record { begins = λ rd. true_has rd c.before.before.before.before.before.before.before.before.before.before.before.before.before.before.before.before.before.before.before.requires.1.1.1 _ _ _ _ c.before.before.before.before.before.before.before.before.before.before.before.before.before.before.before.count_of.ensures c.before.before.before.before.before.before.before.before.before.before.before.before.before.left-of.ensures c.before.before.before.before.before.before.before.before.before.before.before.before.make-constant.ensures _ _ _ c.before.before.before.before.before.before.before.before.m.given.1 c.before.grown.ensures _ _ _ c.before.before.before.before.before.before.node.ensures c.before.before.before.before.put-node.ensures c.inner.ensures }
 
 pub synthesize-spec : {M : Type 1} → statement M
 synthesize-spec = tie.close (tie.spec count-of-requires left-of-requires make-constant-requires enum-known-m enum_told at-requires same_length returns node-requires put-node-requires grown-requires inner-requires same-length-2 same-length-3 returns-2)

@@ -1,6 +1,6 @@
 use Rattle.prop.proofs.Heads.{prop_in}
 use Rattle.step.proofs.Moves.{loaded_arena, loaded_type, loaded_left}
-use Rattle.step.proofs.Openings.{impl-more, impl-few, impl-full, impl-made, forall-more, forall-few, forall-full, forall-made}
+use Rattle.step.proofs.Openings.{impl_more, impl_few, impl_full, impl_made, forall_more, forall_few, forall_full, forall_made}
 use borrow.Author.Rules.{rules}
 use Rattle.step.proofs.open.abstract_over.Statement.{statement}
 use Rattle.step.proofs.open.abstract_over.Tie as tie
@@ -27,7 +27,7 @@ enum-known-m : tie.Need-enum-known-m
 enum-known-m c = search rules
 
 grown-requires : tie.Need-grown-requires
-grown-requires c κs = (search impl-more, search impl-few)
+grown-requires c κs = (search impl_more, search impl_few)
 
 enum-known-t-2 : tie.Need-enum-known-t-2
 enum-known-t-2 c = search rules
@@ -45,31 +45,31 @@ enum-known-m-2 : tie.Need-enum-known-m-2
 enum-known-m-2 c = search rules
 
 grown-requires-2 : tie.Need-grown-requires-2
-grown-requires-2 c κs = (search forall-more, search forall-few)
+grown-requires-2 c κs = (search forall_more, search forall_few)
 
 same_length : tie.Need-same-length
 same_length c = search rules
 
 returns : tie.Need-returns
-returns c = search impl-full
+returns c = search impl_full
 
 same-length-2 : tie.Need-same-length-2
 same-length-2 c = search rules
 
 returns-2 : tie.Need-returns-2
-returns-2 c = search impl-made
+returns-2 c = search impl_made
 
 same-length-3 : tie.Need-same-length-3
 same-length-3 c = search rules
 
 returns-3 : tie.Need-returns-3
-returns-3 c = search forall-full
+returns-3 c = search forall_full
 
 same-length-4 : tie.Need-same-length-4
 same-length-4 c = search rules
 
 returns-4 : tie.Need-returns-4
-returns-4 c = search forall-made
+returns-4 c = search forall_made
 
 pub abstract-over-spec : {M : Type 1} → statement M
 abstract-over-spec = tie.close (tie.spec count-of-requires left-of-requires enum-known-t make-impl-requires enum_told at-requires enum-known-m grown-requires enum-known-t-2 make-forall-requires enum-told-2 at-requires-2 enum-known-m-2 grown-requires-2 same_length returns same-length-2 returns-2 same-length-3 returns-3 same-length-4 returns-4)

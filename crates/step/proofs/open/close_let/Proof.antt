@@ -1,6 +1,6 @@
 use Rattle.step.proofs.Moves.{loaded_arena, loaded_type}
 use Rattle.prop.proofs.Heads.{prop_in}
-use Rattle.step.proofs.Openings.{close_data, close-holds, close-shut}
+use Rattle.step.proofs.Openings.{close_data, close_holds, close_shut}
 use borrow.Author.Rules.{rules}
 use Rattle.step.proofs.open.close_let.Statement.{statement}
 use Rattle.step.proofs.open.close_let.Tie as tie
@@ -33,10 +33,10 @@ at-requires-2 : tie.Need-at-requires-2
 at-requires-2 c κs = search rules
 
 returns-2 : tie.Need-returns-2
-returns-2 c = search close-holds
+returns-2 c = search close_holds
 
 returns-3 : tie.Need-returns-3
-returns-3 c = search close-shut
+returns-3 c = search close_shut
 
 pub close-let-spec : {M : Type 1} → statement M
 close-let-spec = tie.close (tie.spec enum-known-t enum_told of-requires at-requires returns count-of-requires holds-requires of-requires-2 at-requires-2 returns-2 returns-3)

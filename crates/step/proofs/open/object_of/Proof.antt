@@ -1,4 +1,4 @@
-use Rattle.step.proofs.Objects.{object_none, object-unknown, object-known}
+use Rattle.step.proofs.Objects.{object_none, object_unknown, object_known}
 use borrow.Author.Rules.{rules}
 use Rattle.step.proofs.open.object_of.Statement.{statement}
 use Rattle.step.proofs.open.object_of.Tie as tie
@@ -34,10 +34,10 @@ at-requires-2 : tie.Need-at-requires-2
 at-requires-2 c κs = search rules
 
 returns-2 : tie.Need-returns-2
-returns-2 c = λ ps. search object-unknown
+returns-2 c = λ ps. search object_unknown
 
 returns-3 : tie.Need-returns-3
-returns-3 c = λ ps. search object-known
+returns-3 c = λ ps. search object_known
 
 pub object-of-spec : {M : Type 1} → statement M
 object-of-spec = tie.close (tie.spec term-record-requires of-requires at-requires returns cast-get-by-name get-by_name-requires enum-known-e enum_told of-requires-2 at-requires-2 returns-2 returns-3)

@@ -1,5 +1,5 @@
 use Rattle.step.proofs.Moves.{loaded_arena, loaded_type, loaded_left, put_more, put_few}
-use Rattle.step.proofs.Openings.{all_in, open_impl, open-other, open_full, open-forall}
+use Rattle.step.proofs.Openings.{all_in, open_impl, open_other, open_full, open_forall}
 use borrow.Author.Rules.{rules}
 use Rattle.step.proofs.open.open_function.Statement.{statement}
 use Rattle.step.proofs.open.open_function.Tie as tie
@@ -38,7 +38,7 @@ same-length-2 : tie.Need-same-length-2
 same-length-2 c = search rules
 
 returns-2 : tie.Need-returns-2
-returns-2 c = search open-other
+returns-2 c = search open_other
 
 left-of-requires : tie.Need-left-of-requires
 left-of-requires c κs = search rules
@@ -68,7 +68,7 @@ same-length-4 : tie.Need-same-length-4
 same-length-4 c = search rules
 
 returns-4 : tie.Need-returns-4
-returns-4 c = search open-forall
+returns-4 c = search open_forall
 
 pub open-function-spec : {M : Type 1} → statement M
 open-function-spec = tie.close (tie.spec count-of-requires split-requires enum-known-a same_length returns enum_told over-requires enum-known-datatype enum-told-2 at-requires same-length-2 returns-2 left-of-requires put-in-requires enum-told-3 at-requires-2 enum-known-m grown-requires same-length-3 returns-3 same-length-4 returns-4)

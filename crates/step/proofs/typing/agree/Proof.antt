@@ -1,4 +1,4 @@
-use Rattle.step.proofs.Typings.{agree_type, agree_missing, agree-refused, agree-counts, agree-arena, agree-resolved, agree-expected, agree_on, agree-apart}
+use Rattle.step.proofs.Typings.{agree_type, agree_missing, agree_refused, agree_counts, agree_arena, agree_resolved, agree_expected, agree_on, agree_apart}
 use borrow.Author.Rules.{rules}
 use Rattle.step.proofs.typing.agree.Statement.{statement}
 use Rattle.step.proofs.typing.agree.Tie as tie
@@ -22,10 +22,10 @@ enum-known-u : tie.Need-enum-known-u
 enum-known-u c = search rules
 
 count-of-requires : tie.Need-count-of-requires
-count-of-requires c κs = (search rules, search agree-counts)
+count-of-requires c κs = (search rules, search agree_counts)
 
 compare-types-requires : tie.Need-compare-types-requires
-compare-types-requires c κs = (search agree-arena, (search agree-resolved, search agree-expected))
+compare-types-requires c κs = (search agree_arena, (search agree_resolved, search agree_expected))
 
 is-alpha-requires : tie.Need-is-alpha-requires
 is-alpha-requires c κs = search rules
@@ -37,7 +37,7 @@ same_length : tie.Need-same-length
 same_length c = search rules
 
 returns-2 : tie.Need-returns-2
-returns-2 c = search agree-refused
+returns-2 c = search agree_refused
 
 same-length-2 : tie.Need-same-length-2
 same-length-2 c = search rules
@@ -49,7 +49,7 @@ same-length-3 : tie.Need-same-length-3
 same-length-3 c = search rules
 
 returns-4 : tie.Need-returns-4
-returns-4 c = let a = c.before.before.before.before.before.before.before.before.before.before.before.before.before.before.before.before.before.before.before.args in agree-apart a.file.now a.props.now a.work.now a.k.0 a.a a.wanted a.st _ _ _ c.before.before.before.before.before.before.before.before.before.before.before.before.before.before.a.given.1 c.before.before.before.before.before.before.before.before.before.before.before.resolve-type.ensures _ _ c.before.before.before.before.before.before.before.u.given.1 c.before.before.before.before.before.before.before.before.before.before.before.before.before.before.before.before.before.before.before.requires.1.0 c.before.before.before.before.before.before.before.before.before.before.before.before.before.before.before.before.before.before.before.requires.1.1.0.1 _ c.before.before.before.compare-types.ensures _ c.before.before.is-alpha.ensures c.before.if1.false _ c.at.ensures
+returns-4 c = let a = c.before.before.before.before.before.before.before.before.before.before.before.before.before.before.before.before.before.before.before.args in agree_apart a.file.now a.props.now a.work.now a.k.0 a.a a.wanted a.st _ _ _ c.before.before.before.before.before.before.before.before.before.before.before.before.before.before.a.given.1 c.before.before.before.before.before.before.before.before.before.before.before.resolve-type.ensures _ _ c.before.before.before.before.before.before.before.u.given.1 c.before.before.before.before.before.before.before.before.before.before.before.before.before.before.before.before.before.before.before.requires.1.0 c.before.before.before.before.before.before.before.before.before.before.before.before.before.before.before.before.before.before.before.requires.1.1.0.1 _ c.before.before.before.compare-types.ensures _ c.before.before.is-alpha.ensures c.before.if1.false _ c.at.ensures
 
 pub agree-spec : {M : Type 1} → statement M
 agree-spec = tie.close (tie.spec enum-known-a enum_told returns resolve-type-requires enum-known-r enum-known-u count-of-requires compare-types-requires is-alpha-requires at-requires same_length returns-2 same-length-2 returns-3 same-length-3 returns-4)

@@ -1,5 +1,5 @@
 use borrow.Author.Rules.{rules}
-use Rattle.table.proofs.Chains.{Descent, descent_start, descent-fits, descent-step, descent-end}
+use Rattle.table.proofs.Chains.{Descent, descent_start, descent_fits, descent_step, descent_end}
 use Rattle.table.proofs.above.find_above.Statement.{statement}
 use Rattle.table.proofs.above.find_above.Tie as tie
 
@@ -25,19 +25,19 @@ proposition-at-requires : tie.Need-proposition-at-requires invariant-loop decrea
 proposition-at-requires c κs = search rules
 
 note-children-requires : tie.Need-note-children-requires invariant-loop decreases-loop
-note-children-requires c κs = search descent-fits
+note-children-requires c κs = search descent_fits
 
 loop-less : tie.Need-loop-smaller invariant-loop decreases-loop
 loop-less c = search rules
 
 loop-again : tie.Need-loop-preserved invariant-loop decreases-loop
-loop-again c = search descent-step
+loop-again c = search descent_step
 
 same_length : tie.Need-same-length invariant-loop decreases-loop
 same_length c = search rules
 
 returns : tie.Need-returns invariant-loop decreases-loop
-returns c = search descent-end
+returns c = search descent_end
 
 pub find-above-spec : {M : Type 1} → statement M
 find-above-spec =

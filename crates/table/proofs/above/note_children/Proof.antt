@@ -1,5 +1,5 @@
 use borrow.Author.Rules.{rules}
-use Rattle.table.proofs.Chains.{body-fits, left-fits, right-fits, children_noted}
+use Rattle.table.proofs.Chains.{body_fits, left_fits, right_fits, children_noted}
 use Rattle.table.proofs.above.note_children.Statement.{statement}
 use Rattle.table.proofs.above.note_children.Tie as tie
 
@@ -13,17 +13,17 @@ word-requires : tie.Need-word-requires
 word-requires c κs = search rules
 
 note-requires : tie.Need-note-requires
-note-requires c κs = search body-fits
+note-requires c κs = search body_fits
 
 note-requires-2 : tie.Need-note-requires-2
-note-requires-2 c κs = search left-fits
+note-requires-2 c κs = search left_fits
 
 note-requires-3 : tie.Need-note-requires-3
 note-requires-3 c κs =
     let second = c.before.before.before.before in
     let first = second.before.before.before.before.before in
     let shape = first.before.before.before.before.before in
-    right-fits _ _ shape.prop-shape.ensures _ _ shape.before.before.requires _ first.note.ensures _ _ second.note2.ensures
+    right_fits _ _ shape.prop-shape.ensures _ _ shape.before.before.requires _ first.note.ensures _ _ second.note2.ensures
 
 same_length : tie.Need-same-length
 same_length c = search rules

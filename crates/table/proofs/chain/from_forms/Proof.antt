@@ -1,7 +1,7 @@
 use borrow.Author.Rules.{rules}
 use Rattle.table.specs.Tests.{from_forms}
 use Rattle.table.proofs.Passing.{formed}
-use Rattle.table.proofs.Verdicts.{clears, accuses, goes-past}
+use Rattle.table.proofs.Verdicts.{clears, accuses, goes_past}
 use Rattle.table.proofs.chain.from_forms.Statement.{statement}
 use Rattle.table.proofs.chain.from_forms.Tie as tie
 
@@ -29,7 +29,7 @@ same_length c = search rules
 
 returns-2 : tie.Need-returns-2
 unfolding from_forms
-returns-2 c = search goes-past
+returns-2 c = search goes_past
 
 pub from-forms-spec : {M : Type 1} → statement M
 from-forms-spec =

@@ -1,7 +1,7 @@
 use borrow.Author.Rules.{rules}
 use Rattle.table.specs.Tests.{from_links}
 use Rattle.table.proofs.Passing.{linked}
-use Rattle.table.proofs.Verdicts.{clears, accuses, goes-past}
+use Rattle.table.proofs.Verdicts.{clears, accuses, goes_past}
 use Rattle.table.proofs.chain.from_links.Statement.{statement}
 use Rattle.table.proofs.chain.from_links.Tie as tie
 
@@ -32,7 +32,7 @@ same-length-2 c = search rules
 
 returns-2 : tie.Need-returns-2
 unfolding from_links
-returns-2 c = search goes-past
+returns-2 c = search goes_past
 
 pub from-links-spec : {M : Type 1} → statement M
 from-links-spec =

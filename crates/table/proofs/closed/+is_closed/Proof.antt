@@ -3,7 +3,7 @@ use borrow.Fn.Kinds.{In}
 use borrow.Fn.PlainCycle.{Measures, is, falls, and}
 use Prim.Native.Nat.{ℕ, ◌<◌}
 use native.Mathlib.Omega.{arith}
-use Rattle.table.proofs.Chains.{body_below, left_below, right-below, shut_none, shut_one, shut-two}
+use Rattle.table.proofs.Chains.{body_below, left_below, right_below, shut_none, shut_one, shut_two}
 use Rattle.table.proofs.closed.is_closed.Reads as is-closed
 use Rattle.table.proofs.closed.is_closed.Kinds as kinds
 use Rattle.table.proofs.closed.+is_closed.Lts-is_closed as lts
@@ -13,7 +13,7 @@ use Rattle.layout.proofs.record.proposition_at.Reads as proposition-at
 use Rattle.table.proofs.closed.+is_closed.{statement}
 use Rattle.table.proofs.closed.+is_closed.Tie.{close}
 
-__ the measure is the record's number
+-- the measure is the record's number
 abbrev μ : Measures 2 kinds.ps ℕ
 μ κs a = a.1.1.0.0
 
@@ -51,7 +51,7 @@ is-closed-requires-3 t c κs =
     let m = c.before in
     let s = m.before.before.before.before.before in
     let p = s.requires.1 in
-    let b = right-below p.1.1.0 _ p.1.1.1.1.0 _ m.before.before.proposition-at.ensures _ m.before.prop-shape.ensures m.match.rest in
+    let b = right_below p.1.1.0 _ p.1.1.1.1.0 _ m.before.before.proposition-at.ensures _ m.before.prop-shape.ensures m.match.rest in
     (omega (arith, s.requires.0), (p.0, (p.1.0, (p.1.1.0, (p.1.1.1.0, (omega arith, p.1.1.1.1.1))))))
 
 returns : (t : ℕ) → lts.Need-returns (claims t) (at t) is-closed.Post
@@ -61,7 +61,7 @@ returns-2 : (t : ℕ) → lts.Need-returns-2 (claims t) (at t) is-closed.Post
 returns-2 t c = search shut_one
 
 returns-3 : (t : ℕ) → lts.Need-returns-3 (claims t) (at t) is-closed.Post
-returns-3 t c = search shut-two
+returns-3 t c = search shut_two
 
 pub +is-closed-spec : {M : Type 1} → statement M
 +is-closed-spec =

@@ -1,6 +1,6 @@
 use borrow.Author.Rules.{rules}
 use native.Mathlib.Omega.{arith}
-use Rattle.table.proofs.Chains.{no_goal, goal-in, goal-shut, goal-open}
+use Rattle.table.proofs.Chains.{no_goal, goal_in, goal_shut, goal_open}
 use Rattle.table.proofs.closed.open_goal.Statement.{statement}
 use Rattle.table.proofs.closed.open_goal.Tie as tie
 
@@ -22,7 +22,7 @@ is-closed-requires c κs =
     let e = f.before.before in
     let m = e.before in
     let p = m.before.before.before.before.requires in
-    (p.0, (p.1.0, (record { purpose = _; linked = p.1.1.0 }, (f.find-above.ensures, (goal-in _ _ m.enum-told2.given.1 _ e.expected-field.ensures p.1.1.0, omega (arith, f.find-above.auto, p.1.1.1))))))
+    (p.0, (p.1.0, (record { purpose = _; linked = p.1.1.0 }, (f.find-above.ensures, (goal_in _ _ m.enum-told2.given.1 _ e.expected-field.ensures p.1.1.0, omega (arith, f.find-above.auto, p.1.1.1))))))
 
 returns : tie.Need-returns
 returns c = search no_goal
@@ -31,13 +31,13 @@ same_length : tie.Need-same-length
 same_length c = search rules
 
 returns-2 : tie.Need-returns-2
-returns-2 c = search goal-shut
+returns-2 c = search goal_shut
 
 same-length-2 : tie.Need-same-length-2
 same-length-2 c = search rules
 
 returns-3 : tie.Need-returns-3
-returns-3 c = search goal-open
+returns-3 c = search goal_open
 
 pub open-goal-spec : {M : Type 1} → statement M
 open-goal-spec =

@@ -1,5 +1,5 @@
 use lib.ListN.{length}
-use Rattle.table.proofs.Namings.{names-shown}
+use Rattle.table.proofs.Namings.{names_shown}
 use borrow.Author.Rules.{rules}
 use Rattle.table.proofs.naming.count_names.Statement.{statement}
 use Rattle.table.proofs.naming.count_names.Tie as tie
@@ -30,7 +30,7 @@ same_length c = search rules
 
 returns : tie.Need-returns
 returns c =
-    names-shown c.before.before.before.before.before.before.before.before.before.before.before.before.before.before.before.before.before.before.before.before.before.before.before.before.args.purpose c.before.before.before.before.before.before.before.before.before.before.before.before.before.before.before.before.before.before.before.before.before.before.before.before.args.file.now c.before.before.before.before.before.before.before.before.before.before.before.before.before.before.before.before.before.before.fill-zero.new.0 c.before.before.before.before.before.before.before.before.before.before.before.before.before.before.by-header.new.1.0 c.before.before.before.before.before.before.before.before.before.before.by-propositions.new.1.0 c.before.before.before.before.before.before.by-annotations.new.1.0
+    names_shown c.before.before.before.before.before.before.before.before.before.before.before.before.before.before.before.before.before.before.before.before.before.before.before.before.args.purpose c.before.before.before.before.before.before.before.before.before.before.before.before.before.before.before.before.before.before.before.before.before.before.before.before.args.file.now c.before.before.before.before.before.before.before.before.before.before.before.before.before.before.before.before.before.before.fill-zero.new.0 c.before.before.before.before.before.before.before.before.before.before.before.before.before.before.by-header.new.1.0 c.before.before.before.before.before.before.before.before.before.before.by-propositions.new.1.0 c.before.before.before.before.before.before.by-annotations.new.1.0
     c.before.before.by-terms.new.1.0 (length c.before.before.before.before.before.before.before.before.before.before.before.before.before.before.before.before.before.before.before.before.before.before.before.before.args.work.now) c.before.before.before.before.before.before.before.before.before.before.before.before.before.before.before.before.before.before.before.before.before.proposition-count.result c.before.before.before.before.before.before.before.before.before.before.before.before.before.before.before.before.before.before.before.before.term-count.result
     c.before.before.before.before.before.before.before.before.before.before.before.before.before.before.before.before.before.before.fill-zero.ensures c.before.before.before.before.before.before.before.before.before.before.before.before.before.before.by-header.ensures c.before.before.before.before.before.before.before.before.before.before.by-propositions.ensures c.before.before.before.before.before.before.by-annotations.ensures c.before.before.by-terms.ensures
     c.before.before.before.before.before.before.before.before.before.before.before.before.before.before.before.before.before.before.before.before.before.proposition-count.ensures c.before.before.before.before.before.before.before.before.before.before.before.before.before.before.before.before.before.before.before.before.term-count.ensures

@@ -7,7 +7,7 @@ use Rattle.table.proofs.Heights.{body_high, left_high, right_high, leaf_height, 
 use Rattle.table.proofs.size.height_of.Statement.{statement}
 use Rattle.table.proofs.size.height_of.Tie as tie
 
-__ a child's height is in the room
+-- a child's height is in the room
 body : (c : tie.At-match-keys2) → let a = c.before.before.before.args in (a.r.c < length a.work.now) × (get_or a.work.now a.r.c 0 < 255)
 body c = let s = c.before.before.before in body_high s.args.r s.args.work.now _ c.before.prop-shape.ensures s.requires c.match.keys2
 

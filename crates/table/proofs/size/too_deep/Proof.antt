@@ -8,22 +8,22 @@ use Rattle.layout.specs.File.{terms, as_term, term_record}
 use Rattle.table.specs.Reading.{first, first_from}
 use Rattle.table.specs.Size.{depth, too_deep}
 use Rattle.table.proofs.Firsts.{first_start, first_here, first_past, first_none}
-use Rattle.table.proofs.Heights.{Depths, depths_start, depth_here, subterms-within, depths-next, is_deep, not_deep}
+use Rattle.table.proofs.Heights.{Depths, depths_start, depth_here, subterms_within, depths_next, is_deep, not_deep}
 use Rattle.table.proofs.size.too_deep.Statement.{statement}
 use Rattle.table.proofs.size.too_deep.Tie as tie
 
-__ no term below t is too deep, and the room has their children's depths
+-- no term below t is too deep, and the room has their children's depths
 abbrev invariant-loop : tie.invariant-loop
 invariant-loop file work₀ p count t₀ work t = (t ≤ count) × (first (too_deep file) count ≡ first_from (too_deep file) t (count - t)) × (length work ≡ length work₀) × Depths file work t
 
 abbrev decreases-loop : tie.decreases-loop
 decreases-loop file work₀ p count t₀ work t = count - t
 
-__ the term is one of the table's
+-- the term is one of the table's
 within : (c : tie.In-loop invariant-loop decreases-loop) → c.before.loop.t < terms c.before.before.before.before.args.file.now
 within c = omega (arith, c.before.before.before.before.requires.0.1)
 
-__ what the room has is its depth
+-- what the room has is its depth
 known : (c : tie.In-loop invariant-loop decreases-loop)
     → get_or c.before.loop.work c.before.loop.t 0 ≡ depth c.before.before.before.before.args.file.now c.before.loop.t
 known c = depth_here _ _ _ c.before.before.before.before.requires.1.1 (within c) c.before.loop.invariant.3
@@ -68,7 +68,7 @@ set-depths-requires c κs =
     let i = c.before.before.before.before in
     let h = i.before in
     let s = h.before.before.before in
-    subterms-within s.args.file.now h.loop.work h.loop.t s.requires.1.1 (within i) _ (record-here c.before) (omega (arith, s.requires.0, s.requires.1.0, h.loop.invariant.2, length-set s.args.work.now 0 1))
+    subterms_within s.args.file.now h.loop.work h.loop.t s.requires.1.1 (within i) _ (record-here c.before) (omega (arith, s.requires.0, s.requires.1.0, h.loop.invariant.2, length-set s.args.work.now 0 1))
 
 add-t : tie.Need-overflow-add-t invariant-loop decreases-loop
 add-t c = search rules
@@ -86,7 +86,7 @@ loop-again c =
       search rules,
       h.loop.invariant.1 ∙ first_past (too_deep l) h.loop.t s.args.count (search rules) (not_deep l h.loop.t _ (known i) c.before.before.before.before.before.if1.false),
       d.ensures.size ∙ h.loop.invariant.2,
-      depths-next l h.loop.work h.loop.t s.requires.1.1 (within i) _ (record-here c.before.before.before.before) d.new.0 _ h.loop.invariant.3 (known i) d.ensures,
+      depths_next l h.loop.work h.loop.t s.requires.1.1 (within i) _ (record-here c.before.before.before.before) d.new.0 _ h.loop.invariant.3 (known i) d.ensures,
     )
 
 same-length-2 : tie.Need-same-length-2 invariant-loop decreases-loop

@@ -11,18 +11,18 @@ use Rattle.table.proofs.Heights.{Heights, children_high, height_found, heights_n
 use Rattle.table.proofs.size.too_high.Statement.{statement}
 use Rattle.table.proofs.size.too_high.Tie as tie
 
-__ no record below n is too high, and the room has their heights
+-- no record below n is too high, and the room has their heights
 abbrev invariant-loop : tie.invariant-loop
 invariant-loop file work₀ p n₀ work n = (n ≤ p) × (first (too_high file) p ≡ first_from (too_high file) n (p - n)) × (length work ≡ length work₀) × Heights file work n
 
 abbrev decreases-loop : tie.decreases-loop
 decreases-loop file work₀ p n₀ work n = p - n
 
-__ the record is one of the table's
+-- the record is one of the table's
 within : (c : tie.In-loop invariant-loop decreases-loop) → c.before.loop.n < props c.before.before.before.before.args.file.now
 within c = omega (arith, c.before.before.before.before.requires.0.0)
 
-__ what the code computes is its height
+-- what the code computes is its height
 known : (c : tie.After-height-of invariant-loop decreases-loop)
     → c.height-of.result ≡ height (prop_at c.before.before.before.before.before.before.before.args.file.now c.before.before.before.before.loop.n)
 known c =

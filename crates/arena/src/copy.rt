@@ -16,7 +16,7 @@ use prop::node::{AND, ATOM, EXISTS, FALSE, FOR_ALL, IMPL, TRUE, node_at};
 
 // Put an identifier for a quantifier's parameters, bind one by a quantifier around it, or put identifiers for free names: those of their
 // latest entries, of that many in the work room. (Only this last one reads the work room.)
-#[derive(Drop)]
+#[derive(Clone, Copy)]
 pub enum Change {
     Put(Serial),
     Bind(Serial),
@@ -24,7 +24,7 @@ pub enum Change {
 }
 
 // The copy's number, and how many records there are with it.
-#[derive(Drop)]
+#[derive(Clone, Copy)]
 pub struct Copied {
     pub at: Proposition,
     pub count: u16,

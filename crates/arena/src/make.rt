@@ -14,7 +14,7 @@ use prop::node::{AND, FALSE, FOR_ALL, IMPL, TRUE};
 use prop::size::{Nodes, nodes_of};
 
 // The new proposition, and how many records there are with it; or there would be more than `left` new ones.
-#[derive(Drop)]
+#[derive(Clone, Copy)]
 pub enum Made {
     At(Proposition, u16),
     Full,

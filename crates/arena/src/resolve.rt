@@ -17,7 +17,7 @@ use prop::node::{AND, ATOM, EXISTS, FALSE, FOR_ALL, IMPL, TRUE, node_at};
 use prop::size::{Nodes, nodes_of};
 
 // The resolved type, and how many records there are with it; or why there is none.
-#[derive(Drop)]
+#[derive(Clone, Copy)]
 pub enum Resolved {
     To(Sort, u16),
     Unknown,

@@ -1,5 +1,7 @@
 // Floor 7: check and synthesize, which call each other through the rules. A rule is a value, and `perform` does with it what `obey` of the rules'
 // definition does with a program. The cycle has these four functions, however many rules there are.
+#![tactic(auto)]
+
 ghost use Rattle.prop.specs.Room.{TypeIn};
 ghost use Rattle.step.specs.declared.state.Want.«TheVariants».{Check, Synth};
 ghost use Rattle.layout.specs.File.{term_record};

@@ -7,14 +7,14 @@ use numbers::record::{put_word, word};
 use numbers::{Name, Proposition, Serial, Sort, Term};
 
 // What a name stands for. Document 01: the type, a proposition number or a datatype, is held inside each context entry.
-#[derive(Drop)]
+#[derive(Clone, Copy)]
 pub struct Entry {
     pub name: Name,
     pub serial: Serial,
     pub typ: Sort,
 }
 
-#[derive(Drop)]
+#[derive(Clone, Copy)]
 pub enum Found {
     Held(Entry),
     Nothing,

@@ -1,4 +1,6 @@
 // Floor 2, above the tests: the edited table, which is the old one with a filling in the place of a Sorry record.
+#![tactic(auto)]
+
 ghost use Rattle.std.specs.Prelude.{◌≡◌, ◌+◌, ◌*◌, ◌≤◌, length};
 ghost use Rattle.numbers.specs.Records.{record_at, Put};
 ghost use Rattle.layout.specs.File.{props, terms};

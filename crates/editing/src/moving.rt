@@ -9,7 +9,7 @@ use numbers::record::Record;
 
 // What becomes of a record that is copied. One of the old table stays as it is; a proposition of the filling comes behind so many
 // propositions, and a term behind so many propositions and terms.
-#[derive(Drop)]
+#[derive(Clone, Copy)]
 pub enum Change {
     Stays,
     Proposition(u16),

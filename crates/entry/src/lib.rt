@@ -1,5 +1,7 @@
 // The entry: any bytes as a table, any rooms. The rooms and the table are tested, the propositions loaded, the root is held to the expected
 // proposition, and the rooms are left clean.
+#![tactic(auto)]
+
 ghost use Rattle.std.specs.Prelude.{◌≡◌, ◌+◌, ◌≤◌, length};
 ghost use Rattle.table.specs.declared.Purpose.«TheVariants».{Check};
 ghost use Rattle.table.specs.Passing.{Good};
@@ -18,7 +20,7 @@ use table::{Purpose, Verdict, test_table};
 pub mod rooms;
 
 // How many tree records, goals, serials and propositions a run made.
-#[derive(Drop)]
+#[derive(Clone, Copy)]
 pub struct Counts {
     pub records: u16,
     pub goals: u16,
@@ -27,7 +29,7 @@ pub struct Counts {
 }
 
 // What a check answers.
-#[derive(Drop)]
+#[derive(Clone, Copy)]
 pub enum Mark {
     Accepted(Counts),
     Refused(Refusal),

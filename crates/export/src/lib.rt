@@ -1,4 +1,6 @@
 // The checker for C: tables and rooms are pointers with lengths, and the answer is a record of bytes (include/sporekettle.h). Any bytes, any lengths.
+#![tactic(auto)]
+
 ghost use Rattle.table.specs.declared.Purpose.«TheVariants».{Check, Filling};
 ghost use Rattle.step.specs.Rooms.{rooms};
 ghost use Rattle.filling.specs.Fill.{lent};

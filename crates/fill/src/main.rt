@@ -1,6 +1,8 @@
 // `fill OLD GOAL FILLING`: goal number GOAL of the table in OLD, filled with the table in FILLING. Accepted, the filling's own tree and goals are
 // printed in the lines of `mark`. A refusal ends with the table that its place is in: old, filling or edited.
 // `fill OLD GOAL FILLING EDITED` also writes the edited table of an accepted filling to EDITED.
+#![tactic(auto)]
+
 use editing::EDITED;
 use entry::rooms::{GOALS, PROPOSITIONS, TREE, WORK};
 use filling::answer::{Filled, Which};

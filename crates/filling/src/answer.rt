@@ -8,7 +8,7 @@ use numbers::refusal::Refusal;
 use numbers::room::clear;
 
 // The table that a refusal's place is in.
-#[derive(Drop)]
+#[derive(Clone, Copy)]
 pub enum Which {
     Old,
     Filling,
@@ -16,7 +16,7 @@ pub enum Which {
 }
 
 // The counts are of the filling's own records, goals and serials, and of the propositions made up to its end.
-#[derive(Drop)]
+#[derive(Clone, Copy)]
 pub enum Filled {
     Accepted(Counts),
     Refused(Refusal, Which),

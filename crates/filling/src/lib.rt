@@ -1,5 +1,7 @@
 // Floor 7: filling a goal. The old table and its check, the filling's tests, the edited table, and the filling's run from what was known at the hole.
 // Refusals come in document 01's order.
+#![tactic(auto)]
+
 ghost use Rattle.editing.specs.Edited.{Fillable};
 ghost use Rattle.step.specs.Rooms.{rooms};
 ghost use Rattle.entry.specs.Mark.{«table_run»};

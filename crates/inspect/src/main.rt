@@ -1,5 +1,7 @@
 // `inspect FILE`: how many propositions and terms a table says it has, and the verdict of its tests as a table to check.
 // `inspect -f FILE` tests it as a filling.
+#![tactic(auto)]
+
 use libc::STDERR_FILENO;
 use show::input::{LONGEST, read_argument};
 use table::{Purpose, Verdict};

@@ -5,7 +5,7 @@ ghost use Rattle.layout.specs.Form.{«prop_shape», «term_shape»};
 
 // What a kind of proposition uses: of the fields a, b and c the first so many; so many children; and this range of parameter
 // counts, an empty one for a kind that is not known.
-#[derive(Drop)]
+#[derive(Clone, Copy)]
 pub struct PropShape {
     pub fields: u8,
     pub children: u8,
@@ -14,7 +14,7 @@ pub struct PropShape {
 }
 
 // What a kind of term uses: names, children, and a range of type tags, an empty one for a kind that is not known.
-#[derive(Drop)]
+#[derive(Clone, Copy)]
 pub struct TermShape {
     pub names: u8,
     pub children: u8,

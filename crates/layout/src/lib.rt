@@ -1,4 +1,6 @@
 // Floor 2, below the tests: where a table's numbers and records stand, and what each kind of record uses.
+#![tactic(auto)]
+
 pub mod form;
 pub mod header;
 pub mod record;

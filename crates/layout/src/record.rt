@@ -7,7 +7,7 @@ use numbers::record::{Record, record_at};
 use numbers::{Name, Proposition, Term};
 
 // A term's record: sixteen bytes under a term's names.
-#[derive(Drop)]
+#[derive(Clone, Copy)]
 pub struct TermRecord {
     pub kind: u8,
     pub tag: u8,

@@ -1,5 +1,7 @@
 // `mark FILE`: the mark of a proof table, in the lines that document 01 shows. Accepted: the counts of records and goals, a line for each tree record
 // (rule, term, serials, premises) and one for each goal (term, context length). Refused: the number and the place.
+#![tactic(auto)]
+
 use entry::rooms::{GOALS, PROPOSITIONS, TREE, WORK};
 use entry::{Mark, check};
 use libc::STDERR_FILENO;

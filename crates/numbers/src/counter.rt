@@ -2,12 +2,12 @@
 ghost use Rattle.std.specs.Prelude.{◌≡◌, ◌+◌, ◌<◌};
 ghost use Rattle.numbers.specs.Limits.{largest};
 
-#[derive(Drop)]
+#[derive(Clone, Copy)]
 pub struct Counter {
     pub count: u16,
 }
 
-#[derive(Drop)]
+#[derive(Clone, Copy)]
 pub struct Counted {
     pub value: u16,
     pub counter: Counter,

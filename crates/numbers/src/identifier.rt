@@ -5,13 +5,13 @@ ghost use Rattle.numbers.specs.Limits.{largest};
 use super::counter::Counter;
 use super::{Name, Serial};
 
-#[derive(Drop)]
+#[derive(Clone, Copy)]
 pub struct Identifier {
     pub name: Name,
     pub serial: Serial,
 }
 
-#[derive(Drop)]
+#[derive(Clone, Copy)]
 pub struct Created {
     pub identifier: Identifier,
     pub counter: Counter,

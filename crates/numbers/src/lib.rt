@@ -1,4 +1,6 @@
 // Floor 1: the four kinds of number, fresh serials, and rooms of bytes read and written as 16-byte records.
+#![tactic(auto)]
+
 ghost use Rattle.std.specs.Prelude.{◌≡◌, ◌+◌, ◌<◌, length};
 ghost use Rattle.numbers.specs.Records.{word_at};
 
@@ -11,19 +13,19 @@ pub mod room;
 use record::word;
 
 // What a student calls something: a variable, an object, a predicate or a datatype. Every 16-bit number is a name.
-#[derive(Drop)]
+#[derive(Clone, Copy)]
 pub struct Name(pub u16);
 
 // An identifier's own number: they are counted from 0 in the order in which they are made.
-#[derive(Drop)]
+#[derive(Clone, Copy)]
 pub struct Serial(pub u16);
 
 // The number of a record of the propositions room, the table's records first.
-#[derive(Drop)]
+#[derive(Clone, Copy)]
 pub struct Proposition(pub u16);
 
 // The number of a term's record in the table.
-#[derive(Drop)]
+#[derive(Clone, Copy)]
 pub struct Term(pub u16);
 
 impl Name {
@@ -83,7 +85,7 @@ impl Term {
 }
 
 // A type is a proposition or a datatype.
-#[derive(Drop)]
+#[derive(Clone, Copy)]
 pub enum Sort {
     Proposition(Proposition),
     Datatype(Name),

@@ -4,7 +4,7 @@ ghost use Rattle.numbers.specs.Records.{word_at, put_word, record_at, Put};
 
 // What sixteen bytes say, field by field as a proposition's record has them: an atom holds its parameters by value, `count` of
 // them. Other kinds of record read the same fields under names of their own.
-#[derive(Drop)]
+#[derive(Clone, Copy)]
 pub struct Record {
     pub kind: u8,
     pub count: u8,

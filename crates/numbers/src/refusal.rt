@@ -5,7 +5,7 @@ ghost use Rattle.numbers.specs.Refusals.{«refusal_at»};
 use super::Term;
 
 // A refusal: its number in document 01, and the number of the record that is to blame.
-#[derive(Drop)]
+#[derive(Clone, Copy)]
 pub struct Refusal {
     pub number: u8,
     pub place: u16,

@@ -8,7 +8,7 @@ use numbers::record::Record;
 use numbers::{Name, Serial};
 
 // A free name, an identifier, or bound, with the number of quantifiers between it and its own. An atom has places for four.
-#[derive(Drop)]
+#[derive(Clone, Copy)]
 pub enum Parameter {
     Free(Name),
     Identifier(Serial),

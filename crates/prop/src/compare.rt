@@ -7,7 +7,7 @@ use super::node::{AND, ATOM, EXISTS, FALSE, FOR_ALL, IMPL, TRUE, node_at};
 use numbers::record::Record;
 use numbers::{Proposition, Sort};
 
-#[derive(Drop)]
+#[derive(Clone, Copy)]
 pub enum Compared {
     Equal,
     Alpha,

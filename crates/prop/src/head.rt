@@ -9,7 +9,7 @@ use super::node::{AND, EXISTS, FOR_ALL, IMPL, OR, TRUE, node_at};
 use numbers::{Name, Proposition, Sort};
 
 // What joins two propositions.
-#[derive(Drop)]
+#[derive(Clone, Copy)]
 pub enum Link {
     And,
     Or,
@@ -17,19 +17,19 @@ pub enum Link {
 }
 
 // What binds in one.
-#[derive(Drop)]
+#[derive(Clone, Copy)]
 pub enum Quant {
     All,
     Ex,
 }
 
-#[derive(Drop)]
+#[derive(Clone, Copy)]
 pub enum Parts {
     Both(Proposition, Proposition),
     Other,
 }
 
-#[derive(Drop)]
+#[derive(Clone, Copy)]
 pub enum Quantified {
     Over { datatype: Name, body: Proposition },
     Other,

@@ -1,5 +1,6 @@
 // Floor 4: propositions in their room. The table's records come first, then the made ones; a record's children have smaller numbers, and what a
 // number stands for never changes.
+#![tactic(auto)]
 
 pub mod atom;
 pub mod compare;

@@ -7,7 +7,7 @@ ghost use Rattle.prop.specs.Size.{counted};
 use super::node::{AND, EXISTS, FOR_ALL, IMPL, node_at};
 use numbers::Proposition;
 
-#[derive(Drop)]
+#[derive(Clone, Copy)]
 pub enum Nodes {
     Within(u16),
     Over,

@@ -1,5 +1,7 @@
 // Tests a stream of tables from standard input and prints a line for each: the count of tables in 32 bits; then for each its length in
 // 32 bits, a byte that says what it is for (0 a check, else a filling), and its bytes. tests/tables/README.md has the rest.
+#![tactic(auto)]
+
 use libc::STDIN_FILENO;
 use show::input::{LONGEST, next_word, read_table};
 use table::Purpose;

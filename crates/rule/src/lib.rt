@@ -1,5 +1,6 @@
 // Floor 6: the rules, one file each, cut at their premises. A rule's code is what it does before its first premise, between two, and after the last;
 // what is left to do after a premise is a small value, `Rest`. None of these functions recurs.
+#![tactic(auto)]
 
 pub mod abort;
 pub mod application;

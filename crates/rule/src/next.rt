@@ -10,7 +10,7 @@ use step::node::{node, put_node};
 use step::state::{State, Want, answered};
 
 // A rule under way: its term, what is wanted of it, and the counts at its start.
-#[derive(Drop)]
+#[derive(Clone, Copy)]
 pub struct Rule {
     pub term: Term,
     pub want: Want,
@@ -18,7 +18,7 @@ pub struct Rule {
 }
 
 // What is left of a rule after a premise.
-#[derive(Drop)]
+#[derive(Clone, Copy)]
 pub enum Rest {
     // One node, of what is answered: the rule's number, and how many premises it had.
     By(u8, u16),
@@ -49,7 +49,7 @@ pub enum Rest {
 }
 
 // What a rule comes to: it asks for a premise, and this is then left of it; a subterm is held to a type in its place; it is done; it is refused.
-#[derive(Drop)]
+#[derive(Clone, Copy)]
 pub enum Next {
     Ask(Rule, Rest, Term, Want, State),
     Instead(Term, Sort, State),

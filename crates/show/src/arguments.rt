@@ -13,7 +13,7 @@ pub fn text_argument(i: usize, room: &mut [u8]) -> isize {
 }
 
 // What a text spells: a number, or something else.
-#[derive(Drop)]
+#[derive(Clone, Copy)]
 pub enum Numeral {
     Number(u16),
     Other,

@@ -1,4 +1,6 @@
 // What programs print of the answers, and how they read tables: no logic.
+#![tactic(auto)]
+
 ghost use Rattle.std.specs.Prelude.{◌≡◌, ◌<◌};
 
 use libc::STDOUT_FILENO;

@@ -10,7 +10,7 @@ use numbers::counter::Counter;
 use numbers::identifier::{Identifier, create};
 use numbers::{Name, Sort};
 
-#[derive(Drop)]
+#[derive(Clone, Copy)]
 pub struct Fresh {
     pub identifier: Identifier,
     pub state: State,

@@ -1,4 +1,5 @@
 // Floor 5: what the cycle of check and synthesize asks and promises, and those parts of the rules that do not recurse.
+#![tactic(auto)]
 
 pub mod enter;
 pub mod node;

@@ -43,7 +43,7 @@ pub const SORRY: u8 = 15;
 pub const ALPHA_EQ: u8 = 16;
 
 // What a node's sixteen bytes say: where it has no serial stands `Serial::NONE`.
-#[derive(Drop)]
+#[derive(Clone, Copy)]
 pub struct NodeRecord {
     pub rule: u8,
     pub term: Term,
@@ -54,7 +54,7 @@ pub struct NodeRecord {
 }
 
 // What a goal's eight bytes say.
-#[derive(Drop)]
+#[derive(Clone, Copy)]
 pub struct Goal {
     pub term: Term,
     pub proposition: Proposition,

@@ -21,31 +21,31 @@ use numbers::{Name, Proposition, Serial, Sort, Term};
 use prop::head::{Link, Parts, Quant, Quantified, over, split};
 use prop::holds::holds;
 
-#[derive(Drop)]
+#[derive(Clone, Copy)]
 pub enum Opened {
     Body(u8, Sort, Proposition, State),
     Refused(Refusal),
 }
 
-#[derive(Drop)]
+#[derive(Clone, Copy)]
 pub enum Object {
     Known(Serial),
     Refused(Refusal),
 }
 
-#[derive(Drop)]
+#[derive(Clone, Copy)]
 pub enum Entered {
     In(State),
     Refused(Refusal),
 }
 
-#[derive(Drop)]
+#[derive(Clone, Copy)]
 pub enum Closed {
     Shut,
     Refused(Refusal),
 }
 
-#[derive(Drop)]
+#[derive(Clone, Copy)]
 pub enum Abstracted {
     To(u8, Proposition, State),
     Refused(Refusal),

@@ -10,7 +10,7 @@ use numbers::record::{put_word, word};
 use numbers::{Name, Serial, Sort};
 
 // What a filling's run begins with.
-#[derive(Drop)]
+#[derive(Clone, Copy)]
 pub struct Start {
     pub wanted: Sort,
     pub state: State,

@@ -15,7 +15,7 @@ use numbers::{Proposition, Sort, Term};
 
 // The counts: tree records, goals, serials and propositions made so far, and how many entries the context has; and the number of the goal whose
 // picture the run takes, which it never changes.
-#[derive(Drop)]
+#[derive(Clone, Copy)]
 pub struct State {
     pub records: u16,
     pub goals: u16,
@@ -31,14 +31,14 @@ impl State {
 }
 
 // A term is asked for its type, or held to one.
-#[derive(Drop)]
+#[derive(Clone, Copy)]
 pub enum Want {
     Synth,
     Check(Sort),
 }
 
 // What a run answers: a type, which in a check is the wanted one, or a refusal.
-#[derive(Drop)]
+#[derive(Clone, Copy)]
 pub enum Ran {
     Has(Sort, State),
     Refused(Refusal),

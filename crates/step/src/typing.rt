@@ -13,19 +13,19 @@ use numbers::refusal::Refusal;
 use numbers::{Name, Proposition, Sort, Term};
 use prop::compare::{compare_types, is_alpha};
 
-#[derive(Drop)]
+#[derive(Clone, Copy)]
 pub enum Annotation {
     Of(Sort),
     Missing,
 }
 
-#[derive(Drop)]
+#[derive(Clone, Copy)]
 pub enum Resolving {
     To(Sort, State),
     Refused(Refusal),
 }
 
-#[derive(Drop)]
+#[derive(Clone, Copy)]
 pub enum Agreed {
     On(State),
     Refused(Refusal),

@@ -13,7 +13,7 @@ use numbers::record::{Record, put_word, word};
 use numbers::{Name, Proposition};
 
 // What a name in the file is: free, or bound with so many quantifiers between it and its own.
-#[derive(Drop)]
+#[derive(Clone, Copy)]
 pub enum Settled {
     Free,
     Bound(u16),

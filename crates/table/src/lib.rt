@@ -1,5 +1,7 @@
 // Floor 2: the proof table. Any bytes are refused with document 01's number and place, or are a table that stands for a term and a
 // proposition of the rules.
+#![tactic(auto)]
+
 ghost use Rattle.table.specs.Tests.{Tested};
 
 pub mod above;
@@ -15,21 +17,21 @@ use numbers::Proposition;
 use numbers::refusal::Refusal;
 
 // What a table is for: document 01's two entries.
-#[derive(Drop)]
+#[derive(Clone, Copy)]
 pub enum Purpose {
     Check,
     Filling,
 }
 
 // The lowest guilty record of a test, propositions counted before terms.
-#[derive(Drop)]
+#[derive(Clone, Copy)]
 pub enum Guilty {
     At(u16),
     Nobody,
 }
 
 // What the tests answer.
-#[derive(Drop)]
+#[derive(Clone, Copy)]
 pub enum Verdict {
     Passes,
     Refused(Refusal),

@@ -1,6 +1,8 @@
 // Marks tables from standard input, each after its length in 32 bits (0 or the input's end stops), and prints each answer whole: tree records with
 // their conclusions, goals with their propositions, and the counts. The lines are those of the original's runner, for a plain comparison; only a
 // goal's visible serials are left out, since no room holds them.
+#![tactic(auto)]
+
 use entry::rooms::{GOALS, PROPOSITIONS, TREE, WORK};
 use entry::{Mark, check};
 use show::input::{LONGEST, next_word, read_table};

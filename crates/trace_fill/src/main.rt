@@ -1,6 +1,8 @@
 // Fills goals from standard input and prints each answer whole, in the lines of the original's runner as `trace` does. An old table, a goal's number in
 // 32 bits and a filling make one entry; a table stands after its length in 32 bits. Where an old table's length is 0, or the input ends, it stops. The line
 // after a refusal says which table its place is in.
+#![tactic(auto)]
+
 use editing::EDITED;
 use entry::rooms::{GOALS, PROPOSITIONS, TREE, WORK};
 use filling::answer::{Filled, Which};

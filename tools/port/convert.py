@@ -1,0 +1,176 @@
+#!/usr/bin/env python3
+"""Turns the Proof.antt files of a crate, which walk the code, to Invariants.antt and Answers.antt.
+
+usage: tools/port/convert.py CRATE NAMES [--only PART]     at the top of the repository; NAMES is the names.json that `rt check --generated DIR --old-names` writes
+
+The needs of an old proof and the goals of today stand in one order, so the n-th need's answer becomes the n-th goal's. A path through the steps before loses its
+`.before`s, and a step gets today's name. An answer that is only a search is left out: the check searches by itself. What it cannot turn it says.
+"""
+
+import json
+import os
+import re
+import sys
+
+NAME = r"[^\s(){}.;,@\"«»]+"
+
+
+def blocks(text):
+    """The `use` lines, and the declarations with what precedes them."""
+    uses, out, block = [], [], []
+    for line in text.split("\n"):
+        if line.startswith("use ") or line.startswith("pub use "):
+            uses.append(line)
+        elif line and not line[0].isspace() and re.match(rf"(?:abbrev |pub |unfoldable )*{NAME} *(?:[({{].*)?: ", line) and not line.startswith("--"):
+            # a signature begins a new block; comments right above go with it
+            keep = []
+            while block and block[-1].startswith("--"):
+                keep.insert(0, block.pop())
+            out.append(block)
+            block = keep + [line]
+        else:
+            block.append(line)
+    out.append(block)
+    return uses, [b for b in out if any(x.strip() for x in b)]
+
+
+def norm(name):
+    return re.sub(r"[-_]", "_", name)
+
+
+class Turn:
+    def __init__(self, entry):
+        self.steps, self.callee = {}, {}
+        for place, parent, (old, new), callee, _ in entry["places"]:
+            if not old:
+                continue
+            self.steps.setdefault(norm(old), new)
+            if callee:
+                self.callee.setdefault(new, callee)
+        self.args = {}
+        for old, new in entry["args"]:
+            if old.startswith(".args ."):
+                self.args[old[len(".args ."):]] = new[len(".args ."):]
+        self.params = entry["params"]
+        self.loops = entry["loops"]
+
+    def path(self, text):
+        text = re.sub(r"(?:\.before)+(?=[.\s),;])", "", text)
+        text = re.sub(r"(\bc)\.before\b", r"\1", text)
+
+        def step(m):
+            name = m[1]
+            new = self.steps.get(norm(name))
+            return "." + new if new and not re.fullmatch(r".*-1", new) else m[0]
+
+        text = re.sub(rf"\.({NAME})", step, text)
+        for old, new in self.args.items():
+            text = re.sub(rf"(?<=\.){re.escape(old)}(?![\w'-])", new, text)
+            text = text.replace("args." + old, "args." + new)
+
+        # .new.1.1.0 and .auto.1.0 of a call, by the callee's parameters
+        def param(m):
+            names = self.params.get(self.callee.get(m[1], ""), None)
+            k = m[3].count(".1")
+            if names is None or k >= len(names):
+                return m[0]
+            return f".{m[1]}.{m[2]}.{names[k]}"
+
+        text = re.sub(rf"\.({NAME})\.(new|auto)((?:\.1)*)\.0(?![\w.])", param, text)
+        text = re.sub(rf"\.({NAME})\.(new|auto)((?:\.1)*)\.0(?=\.)", param, text)
+        text = re.sub(r"\.given\.1(?!\.)", ".is", text)
+        text = text.replace(".last.", ".new.").replace(".kept.", ".auto.")
+        return text
+
+
+def main():
+    crate, names = sys.argv[1], json.load(open(sys.argv[2]))
+    only = sys.argv[sys.argv.index("--only") + 1] if "--only" in sys.argv else ""
+    top = os.path.join("crates", crate, "proofs")
+    for folder, _, files in sorted(os.walk(top)):
+        if "Proof.antt" not in files or only not in folder:
+            continue
+        f = os.path.join(folder, "Proof.antt")
+        path = os.path.relpath(folder, top).replace(os.sep, ".")
+        entry = names.get(f"Rattle-{crate}-proofs.{path}.Lts")
+        if entry is None:
+            print(f"{f}: no names")
+            continue
+        text = open(f, encoding="utf-8").read()
+        uses, decls = blocks(text)
+        uses = [u for u in uses if not re.search(r"\.Statement\.|\.Tie as tie|\.Tie\b|\.Statement\b", u)]
+        spec = next((b for b in decls if any("tie.spec" in l for l in b)), None)
+        if spec is None:
+            print(f"{f}: no spec that it can read")
+            continue
+        args = "\n".join(spec).split("tie.spec", 1)[1].replace(")", " ").split()
+        turn = Turn(entry)
+        made = {}
+        plain, invs, answers, said = [], [], [], []
+        count = 2 * len(entry["loops"])
+        holds = args[:count]
+        needs = args[count:]
+        if len(needs) != len(entry["needs"]):
+            said.append(f"{len(needs)} answers, {len(entry['needs'])} goals")
+        goal_of = dict(zip(needs, [n[1] for n in entry["needs"]]))
+        for b in decls:
+            if b is spec:
+                continue
+            i = next(k for k, l in enumerate(b) if l and not l.startswith("--"))
+            sig = b[i]
+            name = re.match(rf"(?:abbrev |pub |unfoldable )*({NAME})", sig)[1]
+            comments = [l for l in b[:i] if l.startswith("--")]
+            body = b[i + 1 :]
+            while body and not body[-1].strip():
+                body.pop()
+            if name in holds:
+                k = holds.index(name)
+                (old, new), live = entry["loops"][k // 2]
+                changed = entry["changed"][k // 2]
+                kind = "invariant" if k % 2 == 0 else "decreases"
+                whole = "\n".join(body)
+                m = re.match(rf"{re.escape(name)} (.*?) ?=(\s.*)$", whole, re.S)
+                if not m:
+                    said.append(f"{name}: no clause that it can read")
+                    continue
+                params = m[1].split()
+                now = [v for v, ch in zip(live, changed) if ch]
+                olds = params[: len(live)]
+                news = params[len(live) :]
+                if len(params) != len(live) + len(now):
+                    said.append(f"{name}: {params} for {live} and {now}")
+                to = {}
+                for p, v, ch in zip(olds, live, changed):
+                    to[p] = f"l.initial.{v}" if ch else f"l.{v}"
+                for p, v in zip(news, now):
+                    to[p] = f"l.{v}"
+                text2 = re.sub(rf"(?<![.\w'])({NAME})", lambda m: to.get(m[1], m[1]), m[2])
+                invs.append("\n".join(comments + [f"abbrev pub {kind}-{new} : goal.{kind}-{new}", f"{kind}-{new} l ={turn.path(text2)}"]))
+            elif name in goal_of:
+                new = goal_of[name]
+                whole = "\n".join(body)
+                short = re.sub(r"\s+", " ", whole)
+                if re.fullmatch(rf"{re.escape(name)} c(?: κs)? = search rules", short):
+                    continue
+                whole = re.sub(rf"^{re.escape(name)} c(?: κs)? =", f"{new} c =", whole, flags=re.M)
+                answers.append("\n".join(comments + [f"pub {new} : goal.{new}", turn.path(whole)]))
+            else:
+                plain.append((name, "\n".join(b)))
+                if "tie." in "\n".join(b):
+                    said.append(f"{name}: speaks of a place")
+        module = f"Rattle.{crate}.proofs.{path}"
+        # helpers go with whoever uses them
+        for what, which, items in (("Invariants", "Given", invs), ("Answers", "Goals", answers)):
+            if not items:
+                continue
+            helpers = [turn.path(t) for n, t in plain if "tie." not in t and (re.search(rf"(?<![\w'-]){re.escape(n)}(?![\w'-])", "\n".join(items)) or what == "Answers")]
+            odd = [turn.path(t) for n, t in plain if "tie." in t] if what == "Answers" else []
+            text = "\n".join(uses + [f"use {module}.{which} as goal"]) + "\n\n" + "\n\n".join(x.rstrip() for x in helpers + odd + items) + "\n"
+            open(os.path.join(folder, what + ".antt"), "w", encoding="utf-8").write(text)
+        os.rename(f, f + ".old")
+        if said:
+            print(f"{f}: " + "; ".join(said))
+    return 0
+
+
+sys.exit(main())

@@ -39,11 +39,28 @@ def norm(name):
 
 
 class Turn:
-    def __init__(self, entry):
-        self.steps, self.callee = {}, {}
-        for place, parent, (old, new), callee, _ in entry["places"]:
+    """Turns paths for a goal at a place: nearer steps hide farther ones of the same old name."""
+
+    def __init__(self, entry, place=None):
+        self.steps, self.callee, self.arms = {}, {}, []
+        at = {p[0]: k for k, p in enumerate(entry["places"])}
+        chain = []
+        if place is None or place not in at:
+            chain = list(range(len(at)))
+        else:
+            k = at[place]
+            while k is not None:
+                chain.append(k)
+                k = at.get(entry["places"][k][1])
+        for k in chain:
+            _, _, (old, new), callee, _ = entry["places"][k]
             if not old:
                 continue
+            arm = entry["arms"][k]
+            if arm:
+                for field, of, was in arm[2]:
+                    if was:
+                        self.arms.append((of, ".".join(was), arm[0], field))
             self.steps.setdefault(norm(old), new)
             if callee:
                 self.callee.setdefault(new, callee)
@@ -63,6 +80,8 @@ class Turn:
             new = self.steps.get(norm(name))
             return "." + new if new and not re.fullmatch(r".*-1", new) else m[0]
 
+        for of, was, arm, field in self.arms:
+            text = re.sub(rf"\.{re.escape(of)}\.{re.escape(was)}(?![\w'-])", f".{arm}.{field}", text)
         text = re.sub(rf"\.({NAME})", step, text)
         for old, new in self.args.items():
             text = re.sub(rf"(?<=\.){re.escape(old)}(?![\w'-])", new, text)
@@ -113,6 +132,7 @@ def main():
         if len(needs) != len(entry["needs"]):
             said.append(f"{len(needs)} answers, {len(entry['needs'])} goals")
         goal_of = dict(zip(needs, [n[1] for n in entry["needs"]]))
+        place_of = dict(zip(needs, [a[0] for a in entry["asked_at"]]))
         for b in decls:
             if b is spec:
                 continue
@@ -153,7 +173,7 @@ def main():
                 if re.fullmatch(rf"{re.escape(name)} c(?: κs)? = search rules", short):
                     continue
                 whole = re.sub(rf"^{re.escape(name)} c(?: κs)? =", f"{new} c =", whole, flags=re.M)
-                answers.append("\n".join(comments + [f"pub {new} : goal.{new}", turn.path(whole)]))
+                answers.append("\n".join(comments + [f"pub {new} : goal.{new}", Turn(entry, place_of.get(name)).path(whole)]))
             else:
                 plain.append((name, "\n".join(b)))
                 if "tie." in "\n".join(b):

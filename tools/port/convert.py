@@ -59,11 +59,12 @@ class Turn:
             arm = entry["arms"][k]
             if arm:
                 for field, of, was in arm[2]:
-                    if was:
-                        self.arms.append((of, ".".join(was), arm[0], field))
+                    self.arms.append((of, ".".join(was), arm[0], field))
             self.steps.setdefault(norm(old), new)
             if callee:
                 self.callee.setdefault(new, callee)
+        self.arms.sort(key=lambda a: not a[1])
+        self.pre = (entry["pre"] or {}).get("fields") or []
         self.args = {}
         for old, new in entry["args"]:
             if old.startswith(".args ."):
@@ -81,7 +82,7 @@ class Turn:
             return "." + new if new and not re.fullmatch(r".*-1", new) else m[0]
 
         for of, was, arm, field in self.arms:
-            text = re.sub(rf"\.{re.escape(of)}\.{re.escape(was)}(?![\w'-])", f".{arm}.{field}", text)
+            text = re.sub(rf"\.{re.escape(of)}" + (rf"\.{re.escape(was)}" if was else r"(?=\.rest)") + r"(?![\w'-])", f".{arm}.{field}", text)
         text = re.sub(rf"\.({NAME})", step, text)
         for old, new in self.args.items():
             text = re.sub(rf"(?<=\.){re.escape(old)}(?![\w'-])", new, text)
@@ -97,9 +98,50 @@ class Turn:
 
         text = re.sub(rf"\.({NAME})\.(new|auto)((?:\.1)*)\.0(?![\w.])", param, text)
         text = re.sub(rf"\.({NAME})\.(new|auto)((?:\.1)*)\.0(?=\.)", param, text)
+        for k, field in enumerate(self.pre):
+            old = ".1" * k + (".0" if k + 1 < len(self.pre) else "")
+            text = re.sub(rf"\.requires{re.escape(old)}(?![.]?[\w])" if old else r"\.requires(?!\.)", f".requires.{field}", text) if old else text
+            text = re.sub(rf"\.requires{re.escape(old)}(?=\.)(?!\.[01](?:\.[01])*$)", f".requires.{field}", text) if old.endswith(".0") else text
         text = re.sub(r"\.given\.1(?!\.)", ".is", text)
         text = text.replace(".last.", ".new.").replace(".kept.", ".auto.")
         return text
+
+
+def split(goal, whole, fields):
+    """A tuple for a `requires` of several clauses, as an answer for each clause; what a search finds is left to the check."""
+    if not fields:
+        return None
+    text = whole.rstrip()
+    if not text.endswith(")"):
+        return f"{goal}: no tuple for {fields}"
+    depth, at = 0, None
+    for i in range(len(text) - 1, -1, -1):
+        depth += (text[i] in ")}") - (text[i] in "({")
+        if depth == 0:
+            at = i
+            break
+    head, tuple_ = text[:at], text[at + 1 : -1]
+    if not re.search(r"(?:=|\bin)\s*$", head):
+        return f"{goal}: no tuple for {fields}"
+    parts, depth, last = [], 0, 0
+    for i, ch in enumerate(tuple_):
+        depth += (ch in "({[") - (ch in ")}]")
+        if ch == "," and depth == 0:
+            parts.append(tuple_[last:i].strip())
+            last = i + 1
+    parts.append(tuple_[last:].strip())
+    if len(parts) > len(fields):
+        parts = parts[: len(fields) - 1] + ["(" + ", ".join(parts[len(fields) - 1 :]) + ")"]
+    if len(parts) != len(fields):
+        return f"{goal}: {len(parts)} parts for {fields}"
+    out = []
+    for f, t in zip(fields, parts):
+        if t == "search rules":
+            continue
+        name = f"{goal}-clause-{f}"
+        h = re.sub(rf"^{re.escape(goal)} c =", f"{name} c =", head, flags=re.M)
+        out.append((name, h + t))
+    return out
 
 
 def main():
@@ -173,7 +215,15 @@ def main():
                 if re.fullmatch(rf"{re.escape(name)} c(?: κs)? = search rules", short):
                     continue
                 whole = re.sub(rf"^{re.escape(name)} c(?: κs)? =", f"{new} c =", whole, flags=re.M)
-                answers.append("\n".join(comments + [f"pub {new} : goal.{new}", Turn(entry, place_of.get(name)).path(whole)]))
+                whole = Turn(entry, place_of.get(name)).path(whole)
+                parts = split(new, whole, entry["asked"].get(new))
+                if isinstance(parts, str):
+                    said.append(parts)
+                    parts = None
+                if parts is None:
+                    answers.append("\n".join(comments + [f"pub {new} : goal.{new}", whole]))
+                for n, t in parts or []:
+                    answers.append("\n".join(comments + [f"pub {n} : goal.{n}", t]))
             else:
                 plain.append((name, "\n".join(b)))
                 if "tie." in "\n".join(b):

@@ -1,0 +1,15 @@
+use borrow.Author.Rules.{rules}
+use Rattle.table.proofs.Chains.{Descent, descent_start, descent_fits, descent_step, descent_end}
+use Rattle.table.proofs.above.find_above.Goals as goal
+
+pub loop-n-init : goal.loop-n-init
+loop-n-init c = search descent_start
+
+pub note_children-requires : goal.note_children-requires
+note_children-requires c = search descent_fits
+
+pub loop-n-preserved : goal.loop-n-preserved
+loop-n-preserved c = search descent_step
+
+pub returns : goal.returns
+returns c = search descent_end

@@ -1,0 +1,19 @@
+use borrow.Author.Rules.{rules}
+use Rattle.table.proofs.Chains.{body_fits, left_fits, right_fits, children_noted}
+use Rattle.table.proofs.above.note_children.Goals as goal
+
+pub note-requires : goal.note-requires
+note-requires c = search body_fits
+
+pub note-requires-2 : goal.note-requires-2
+note-requires-2 c = search left_fits
+
+pub note-requires-3 : goal.note-requires-3
+note-requires-3 c =
+    let second = c in
+    let first = second in
+    let shape = first in
+    right_fits _ _ shape.prop_shape-s.ensures _ _ shape.requires _ first.note.ensures _ _ second.note-2.ensures
+
+pub returns : goal.returns
+returns c = search children_noted

@@ -1,0 +1,12 @@
+use borrow.Author.Rules.{rules}
+use Prim.Native.Nat.{◌-◌, ◌<◌, ◌≤◌}
+use native.Mathlib.Omega.{arith}
+use Rattle.layout.specs.File.{props}
+use Rattle.table.proofs.Chains.{Climb, climb_start, climb_found, climb_falls, climb_step, climb_end}
+use Rattle.table.proofs.above.settle.Given as goal
+
+abbrev pub invariant-loop-q : goal.invariant-loop-q
+invariant-loop-q l = Climb l.file l.x.0 l.initial.q l.k l.q
+
+abbrev pub decreases-loop-q : goal.decreases-loop-q
+decreases-loop-q l = props l.file - l.q

@@ -1,0 +1,15 @@
+use borrow.Author.Rules.{rules}
+use Rattle.table.specs.Tests.{from_expected}
+use Rattle.table.proofs.Verdicts.{holds, fails, goes_on}
+use Rattle.table.proofs.chain.from_expected.Goals as goal
+
+pub returns-then-not-well_aimed : goal.returns-then-not-well_aimed
+unfolding from_expected
+returns-then-not-well_aimed c = search fails
+
+pub from_links-requires : goal.from_links-requires
+from_links-requires c = (search rules, (search rules, (search holds, search rules)))
+
+pub returns : goal.returns
+unfolding from_expected
+returns c = search goes_on

@@ -1,0 +1,16 @@
+use borrow.Author.Rules.{rules}
+use Rattle.table.specs.Tests.{from_forms}
+use Rattle.table.proofs.Passing.{formed}
+use Rattle.table.proofs.Verdicts.{clears, accuses, goes_past}
+use Rattle.table.proofs.chain.from_forms.Goals as goal
+
+pub from_expected-requires : goal.from_expected-requires
+from_expected-requires c = (search rules, (formed _ (search clears), search rules))
+
+pub returns-in-At : goal.returns-in-At
+unfolding from_forms
+returns-in-At c = search accuses
+
+pub returns-in-Nobody : goal.returns-in-Nobody
+unfolding from_forms
+returns-in-Nobody c = search goes_past

@@ -1,0 +1,21 @@
+use Rattle.numbers.specs.declared.record.Record.{Record}
+use borrow.Author.Rules.{rules}
+use mathlib.Core.Path.{◌≡◌, ap, subst}
+use mathlib.Core.List.{List}
+use Prim.Native.Nat.{ℕ, ◌≤◌, ◌-◌}
+use native.Mathlib.Omega.{arith}
+use lib.ListN.{length}
+use Rattle.layout.specs.File.{prop_record}
+use Rattle.table.specs.Links.{hits, sum, prop_links}
+use Rattle.table.specs.Naming.{Names}
+use Rattle.table.proofs.Namings.{names_same, names_start, names_step}
+use Rattle.table.proofs.naming.by_propositions.Given as goal
+
+abbrev named : List ℕ → ℕ → ℕ → ℕ
+named l j m = hits j (prop_links (prop_record l m))
+
+abbrev pub invariant-loop-n : goal.invariant-loop-n
+invariant-loop-n l = Names 0 l.p (λ j. sum (named l.file j) l.n) l.initial.work l.work × (l.n ≤ l.p)
+
+abbrev pub decreases-loop-n : goal.decreases-loop-n
+decreases-loop-n l = l.p - l.n

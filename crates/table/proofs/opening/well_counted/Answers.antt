@@ -1,0 +1,7 @@
+use Rattle.table.specs.Tests.{counts}
+use borrow.Author.Rules.{rules}
+use Rattle.table.proofs.opening.well_counted.Goals as goal
+
+pub returns : goal.returns
+unfolding counts
+returns c = cc

@@ -1,0 +1,16 @@
+use Rattle.numbers.specs.Limits.{most_terms}
+use native.Mathlib.Omega.{arith}
+use Rattle.table.specs.Tests.{oversized}
+use Rattle.table.proofs.Headers.{first_most}
+use borrow.Author.Rules.{rules}
+use Rattle.table.proofs.size.oversized.Goals as goal
+
+pub too_deep-h-requires : goal.too_deep-h-requires
+too_deep-h-requires c = (search rules, (search rules, search rules))
+
+pub or_term-requires-clause-at_most : goal.or_term-requires-clause-at_most
+or_term-requires-clause-at_most c = first_most _ _ most_terms _ c.too_deep-h.ensures (omega arith)
+
+pub returns : goal.returns
+unfolding oversized
+returns c = cc

@@ -1,0 +1,18 @@
+use mathlib.Core.Path.{◌≡◌, sym, ◌∙◌}
+use Prim.Native.Nat.{◌≤◌, ◌<◌, ◌-◌}
+use native.Mathlib.Omega.{arith}
+use lib.ListN.{length, length-set}
+use borrow.Author.Rules.{rules}
+use Rattle.layout.specs.File.{props}
+use Rattle.table.specs.Reading.{first, first_from, prop_at}
+use Rattle.table.specs.Size.{height, too_high}
+use Rattle.table.proofs.Firsts.{first_start, first_here, first_past, first_none}
+use Rattle.table.proofs.Heights.{Heights, children_high, height_found, heights_next, is_high, not_high}
+use Rattle.table.proofs.size.too_high.Given as goal
+
+-- no record below n is too high, and the room has their heights
+abbrev pub invariant-loop-n : goal.invariant-loop-n
+invariant-loop-n l = (l.n ≤ l.p) × (first (too_high l.file) l.p ≡ first_from (too_high l.file) l.n (l.p - l.n)) × (length l.work ≡ length l.initial.work) × Heights l.file l.work l.n
+
+abbrev pub decreases-loop-n : goal.decreases-loop-n
+decreases-loop-n l = l.p - l.n

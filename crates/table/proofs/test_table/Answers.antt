@@ -1,0 +1,35 @@
+use Rattle.table.specs.Tests.{test_room}
+use mathlib.Core.Path.{◌≡◌, sym, ◌∙◌}
+use native.Mathlib.Omega.{arith}
+use lib.ListN.{length, take}
+use lib.Seq.{length-take-le}
+use Rattle.table.proofs.Verdicts.{tested_short, tested_long}
+use borrow.Author.Rules.{rules}
+use Rattle.table.proofs.test_table.Goals as goal
+
+-- the part of the room that is lent to the tests is as long as they want it
+long_enough : (c : tie.Else1) → length (take test_room c.args.work.now) ≡ test_room
+long_enough c = length-take-le test_room c.args.work.now c.if-work-lt-ROOM.false
+
+pub returns-then-work-lt-ROOM : goal.returns-then-work-lt-ROOM
+returns-then-work-lt-ROOM c =
+    let cleared = c in
+    let short = cleared in
+    let a = short.args in
+    tested_short a.purpose a.file.now a.work.now _ _ short.if-work-lt-ROOM.true cleared.clear.ensures c.new.ensures
+
+pub slice_bounds-run_tests-end-2 : goal.slice_bounds-run_tests-end-2
+slice_bounds-run_tests-end-2 c = sym (long_enough c)
+
+pub run_tests-answer-requires : goal.run_tests-answer-requires
+run_tests-answer-requires c = omega (arith, long_enough c)
+
+pub returns : goal.returns
+returns c =
+    let cleared = c in
+    let ran = cleared in
+    let long = ran in
+    let a = long.args in
+    let r = ran.run_tests-answer in
+    tested_long a.purpose a.file.now a.work.now r.new.1.0 _ r.result long.if-work-lt-ROOM.false r.ensures (r.auto.1.0 ∙ long_enough long)
+    cleared.clear-2.ensures

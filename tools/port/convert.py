@@ -72,6 +72,20 @@ class Turn:
         self.params = entry["params"]
         self.loops = entry["loops"]
 
+    def clause(self, m):
+        """A field of a nested tuple of clauses, by the clause's name."""
+        at, k = re.findall("[01]", m[2]), 0
+        if not at:
+            return m[0]
+        while k < len(self.pre) - 1 and at and at[0] == "1":
+            at.pop(0)
+            k += 1
+        if k < len(self.pre) - 1:
+            if not at:
+                return m[0]
+            at.pop(0)
+        return f"{m[1]}.{self.pre[k]}" + "".join("." + i for i in at)
+
     def path(self, text):
         text = re.sub(r"(?:\.before)+(?=[.\s),;])", "", text)
         text = re.sub(r"(\bc)\.before\b", r"\1", text)
@@ -98,13 +112,31 @@ class Turn:
 
         text = re.sub(rf"\.({NAME})\.(new|auto)((?:\.1)*)\.0(?![\w.])", param, text)
         text = re.sub(rf"\.({NAME})\.(new|auto)((?:\.1)*)\.0(?=\.)", param, text)
-        for k, field in enumerate(self.pre):
-            old = ".1" * k + (".0" if k + 1 < len(self.pre) else "")
-            text = re.sub(rf"\.requires{re.escape(old)}(?![.]?[\w])" if old else r"\.requires(?!\.)", f".requires.{field}", text) if old else text
-            text = re.sub(rf"\.requires{re.escape(old)}(?=\.)(?!\.[01](?:\.[01])*$)", f".requires.{field}", text) if old.endswith(".0") else text
+        if self.pre:
+            heads = [r"\.requires"] + [rf"(?<![\w'.-]){re.escape(x)}" for x in re.findall(rf"let ({NAME}) = (?:{NAME}\.)*requires in", text)]
+            for head in heads:
+                text = re.sub(rf"({head})((?:\.[01])*)(?![\w.'-])", self.clause, text)
+        for alias, of in re.findall(rf"let ({NAME}) = (?:{NAME}\.)+({NAME}) in", text):
+            names = self.params.get(self.callee.get(of, ""), [])
+
+            def of_alias(m):
+                k = m[2].count(".1")
+                return f"{alias}.{m[1]}.{names[k]}" if k < len(names) else m[0]
+
+            text = re.sub(rf"(?<![\w'.-]){re.escape(alias)}\.(new|auto)((?:\.1)*)\.0(?![\w'])", of_alias, text)
         text = re.sub(r"\.given\.1(?!\.)", ".is", text)
         text = text.replace(".last.", ".new.").replace(".kept.", ".auto.")
         return text
+
+
+def commas(text):
+    parts, depth, last = [], 0, 0
+    for i, ch in enumerate(text):
+        depth += (ch in "({[") - (ch in ")}]")
+        if ch == "," and depth == 0:
+            parts.append(text[last:i].strip())
+            last = i + 1
+    return parts + [text[last:].strip()]
 
 
 def split(goal, whole, fields):
@@ -123,13 +155,12 @@ def split(goal, whole, fields):
     head, tuple_ = text[:at], text[at + 1 : -1]
     if not re.search(r"(?:=|\bin)\s*$", head):
         return f"{goal}: no tuple for {fields}"
-    parts, depth, last = [], 0, 0
-    for i, ch in enumerate(tuple_):
-        depth += (ch in "({[") - (ch in ")}]")
-        if ch == "," and depth == 0:
-            parts.append(tuple_[last:i].strip())
-            last = i + 1
-    parts.append(tuple_[last:].strip())
+    parts = commas(tuple_)
+    while len(parts) < len(fields) and parts[-1].startswith("("):
+        more = commas(parts[-1][1:-1])
+        if len(more) < 2:
+            break
+        parts[-1:] = more
     if len(parts) > len(fields):
         parts = parts[: len(fields) - 1] + ["(" + ", ".join(parts[len(fields) - 1 :]) + ")"]
     if len(parts) != len(fields):
@@ -139,7 +170,7 @@ def split(goal, whole, fields):
         if t == "search rules":
             continue
         name = f"{goal}-clause-{f}"
-        h = re.sub(rf"^{re.escape(goal)} c =", f"{name} c =", head, flags=re.M)
+        h = re.sub(rf"^{re.escape(goal)} (t )?c =", rf"{name} \1c =", head, flags=re.M)
         out.append((name, h + t))
     return out
 
@@ -153,18 +184,25 @@ def main():
             continue
         f = os.path.join(folder, "Proof.antt")
         path = os.path.relpath(folder, top).replace(os.sep, ".")
-        entry = names.get(f"Rattle-{crate}-proofs.{path}.Lts")
+        cycle = os.path.basename(folder).startswith("+")
+        entry = names.get(f"Rattle-{crate}-proofs.{path}.Lts" + ("-" + os.path.basename(folder)[1:] if cycle else ""))
         if entry is None:
             print(f"{f}: no names")
             continue
         text = open(f, encoding="utf-8").read()
         uses, decls = blocks(text)
-        uses = [u for u in uses if not re.search(r"\.Statement\.|\.Tie as tie|\.Tie\b|\.Statement\b", u)]
-        spec = next((b for b in decls if any("tie.spec" in l for l in b)), None)
+        uses = [u for u in uses if not re.search(r"\.Tie\b|\.Statement\b|\.\{statement\}|\.(?:Reads|Kinds) as |\.Lts-\S+ as |borrow\.Fn\.", u)]
+        word = "lts.spec" if cycle else "tie.spec"
+        spec = next((b for b in decls if any(word in l for l in b)), None)
         if spec is None:
             print(f"{f}: no spec that it can read")
             continue
-        args = "\n".join(spec).split("tie.spec", 1)[1].replace(")", " ").split()
+        if cycle:
+            # (claims t) (at t) f.Post, then as elsewhere, each with its t
+            args = re.sub(r"\((\S+) t\)", r"\1", "\n".join(spec).split(word, 1)[1]).replace(")", " ").split()[3:]
+        else:
+            args = "\n".join(spec).split(word, 1)[1].replace(")", " ").split()
+        t = "t " if cycle else ""
         turn = Turn(entry)
         made = {}
         plain, invs, answers, said = [], [], [], []
@@ -176,7 +214,7 @@ def main():
         goal_of = dict(zip(needs, [n[1] for n in entry["needs"]]))
         place_of = dict(zip(needs, [a[0] for a in entry["asked_at"]]))
         for b in decls:
-            if b is spec:
+            if b is spec or cycle and any(re.match(r"(?:abbrev )?(?:μ|at|below|claims)\b.* : ", l) for l in b):
                 continue
             i = next(k for k, l in enumerate(b) if l and not l.startswith("--"))
             sig = b[i]
@@ -212,9 +250,12 @@ def main():
                 new = goal_of[name]
                 whole = "\n".join(body)
                 short = re.sub(r"\s+", " ", whole)
-                if re.fullmatch(rf"{re.escape(name)} c(?: κs)? = search rules", short):
+                if re.fullmatch(rf"{re.escape(name)} {t}c(?: κs)? = search rules", short):
                     continue
-                whole = re.sub(rf"^{re.escape(name)} c(?: κs)? =", f"{new} c =", whole, flags=re.M)
+                whole = re.sub(rf"^{re.escape(name)} {t}c(?: κs)? =", f"{new} {t}c =", whole, flags=re.M)
+                if cycle:
+                    whole = re.sub(r"\.requires\.0(?![\w'.])", ".decreases", whole)
+                    whole = re.sub(r"\.requires\.1", ".requires", whole)
                 whole = Turn(entry, place_of.get(name)).path(whole)
                 parts = split(new, whole, entry["asked"].get(new))
                 if isinstance(parts, str):

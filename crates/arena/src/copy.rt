@@ -1,12 +1,12 @@
 // Copies of a proposition with its parameters changed, made of new records.
 ghost use Rattle.std.specs.Prelude.{◌≡◌, true, ℕ, ◌+◌, ◌*◌, ◌<◌, ◌≤◌, length};
 ghost use Rattle.numbers.specs.Limits.{largest};
-ghost use Rattle.rules.specs.Prop.{«put_at», «bind_at», size};
+ghost use Rattle.rules.specs.Prop.{put_at, bind_at, size};
 ghost use Rattle.rules.specs.Context.{settle};
-ghost use Rattle.layout.specs.File.{atomic, «prop_kind»};
-ghost use Rattle.prop.specs.Room.{«room_form», room_at, Arena};
+ghost use Rattle.layout.specs.File.{atomic, prop_kind};
+ghost use Rattle.prop.specs.Room.{room_form, room_at, Arena};
 ghost use Rattle.prop.specs.Atom.{becomes};
-ghost use Rattle.arena.specs.Copy.{«most_records», names, changed, ChangeIn, AtomIs, MoreIs, CopiedIs};
+ghost use Rattle.arena.specs.Copy.{most_records, names, changed, ChangeIn, AtomIs, MoreIs, CopiedIs};
 
 use context::identifier_context::{Found, get_by_name};
 use numbers::record::{Record, put};
@@ -32,7 +32,7 @@ pub struct Copied {
 
 // An identifier for the parameters of a quantifier that stands d quantifiers above.
 fn put_at(p: Parameter, d: u16, s: Serial) -> Parameter
-    ensures { result ≡ becomes («put_at» s.0 d) p }
+    ensures { result ≡ becomes (put_at s.0 d) p }
 {
     match p {
         Parameter::Free(_) => p,
@@ -44,7 +44,7 @@ fn put_at(p: Parameter, d: u16, s: Serial) -> Parameter
 
 // The reverse: an identifier is bound by that quantifier.
 fn bind_at(p: Parameter, d: u16, s: Serial) -> Parameter
-    ensures { result ≡ becomes («bind_at» s.0 d) p }
+    ensures { result ≡ becomes (bind_at s.0 d) p }
 {
     match p {
         Parameter::Free(_) => p,
@@ -87,8 +87,8 @@ fn change_parameter(p: Parameter, d: u16, change: Change, work: &[u8]) -> Parame
 
 // An atom's record with its parameters changed. (Most have one or none.)
 fn change_atom(r: Record, d: u16, change: Change, work: &[u8]) -> Record
-    requires kind_value { «prop_kind» r.kind ≡ atomic }
-    requires r_value { «room_form» r ≡ true }
+    requires kind_value { prop_kind r.kind ≡ atomic }
+    requires r_value { room_form r ≡ true }
     requires change_in { ChangeIn work.now change }
     ensures { AtomIs (changed work.now change d) r result }
 {
@@ -105,8 +105,8 @@ fn change_atom(r: Record, d: u16, change: Change, work: &[u8]) -> Record
 
 // One record more.
 pub fn one_more(props: &mut [u8], count: u16, r: Record) -> Copied
-    requires count_lt_most_records { count < «most_records» }
-    requires most_records_in_bounds { 16 * «most_records» ≤ length props.old }
+    requires count_lt_most_records { count < most_records }
+    requires most_records_in_bounds { 16 * most_records ≤ length props.old }
     ensures { MoreIs props.old count r props.new result }
 {
     let i = count as usize;
@@ -130,8 +130,8 @@ pub fn copy(
     requires arena { Arena props.old count }
     requires n_lt_count { n.0 < count }
     requires n_bound { d + n.0 ≤ largest }
-    requires by_index { (tables : ℕ) → count + size (room_at tables props.old n.0) ≤ «most_records» }
-    requires most_records_in_bounds { 16 * «most_records» ≤ length props.old }
+    requires by_index { (tables : ℕ) → count + size (room_at tables props.old n.0) ≤ most_records }
+    requires most_records_in_bounds { 16 * most_records ≤ length props.old }
     requires change_in { ChangeIn work.now change }
     ensures { CopiedIs props.old count n.0 (changed work.now change) d props.new result }
 {

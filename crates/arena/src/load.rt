@@ -1,11 +1,11 @@
 // The table's propositions, put at the front of their room: names are settled here once, so that no rule has to look for their quantifiers again.
 ghost use Rattle.std.specs.Prelude.{◌≡◌, ◌*◌, ◌<◌, ◌≤◌, length};
-ghost use Rattle.layout.specs.File.{props as «prop-count»};
-ghost use Rattle.table.specs.Tests.{«test_room»};
+ghost use Rattle.layout.specs.File.{props as prop_count};
+ghost use Rattle.table.specs.Tests.{test_room};
 ghost use Rattle.table.specs.Nearest.{Above};
 ghost use Rattle.table.specs.Passing.{Counted, Formed, WellLinked};
 ghost use Rattle.prop.specs.Atom.{becomes};
-ghost use Rattle.arena.specs.Load.{named, «loaded_atom», loaded_record, Loaded};
+ghost use Rattle.arena.specs.Load.{named, loaded_atom, loaded_record, Loaded};
 
 use layout::header::proposition_count;
 use layout::record::proposition_at;
@@ -20,7 +20,7 @@ fn load_parameter(file: &[u8], work: &[u8], n: Proposition, p: Parameter) -> Par
     requires counted { Counted file.now }
     requires well_linked { WellLinked file.now }
     requires above { Above file.now work.now }
-    requires n_bound { (n.0 < «prop-count» file.now) × («test_room» ≤ length work.now) }
+    requires n_bound { (n.0 < prop_count file.now) × (test_room ≤ length work.now) }
     ensures { result ≡ becomes (named file.now n.0) p }
 {
     match p {
@@ -39,8 +39,8 @@ fn load_atom(file: &[u8], work: &[u8], n: Proposition, r: Record) -> Record
     requires counted { Counted file.now }
     requires well_linked { WellLinked file.now }
     requires above { Above file.now work.now }
-    requires n_bound { (n.0 < «prop-count» file.now) × («test_room» ≤ length work.now) }
-    ensures { result ≡ «loaded_atom» file.now n.0 r }
+    requires n_bound { (n.0 < prop_count file.now) × (test_room ≤ length work.now) }
+    ensures { result ≡ loaded_atom file.now n.0 r }
 {
     let p = load_parameter(file, work, n, parameter_at(r, 0));
     let q = load_parameter(file, work, n, parameter_at(r, 1));
@@ -54,7 +54,7 @@ fn load_record(file: &[u8], work: &[u8], n: Proposition) -> Record
     requires counted { Counted file.now }
     requires well_linked { WellLinked file.now }
     requires above { Above file.now work.now }
-    requires n_bound { (n.0 < «prop-count» file.now) × («test_room» ≤ length work.now) }
+    requires n_bound { (n.0 < prop_count file.now) × (test_room ≤ length work.now) }
     ensures { result ≡ loaded_record file.now n.0 }
 {
     let r = proposition_at(file, n);
@@ -71,7 +71,7 @@ pub fn load(file: &[u8], work: &mut [u8], props: &mut [u8])
     requires counted { Counted file.now }
     requires formed { Formed file.now }
     requires well_linked { WellLinked file.now }
-    requires test_room_in_bounds { («test_room» ≤ length work.old) × (16 * «prop-count» file.now ≤ length props.old) }
+    requires test_room_in_bounds { (test_room ≤ length work.old) × (16 * prop_count file.now ≤ length props.old) }
     ensures { Loaded file.now props.old props.new }
 {
     find_above(file, work);

@@ -1,10 +1,10 @@
 // The propositions that the rules make. Each function refuses before the limit would be passed, and has then written nothing.
 ghost use Rattle.std.specs.Prelude.{◌≡◌, true, ◌+◌, ◌*◌, ◌<◌, ◌≤◌, length, ltb};
 ghost use Rattle.rules.specs.Prop.{Link, and, imp};
-ghost use Rattle.layout.specs.File.{linked, «prop_kind»};
-ghost use Rattle.table.specs.Links.{«all_links», «prop_links»};
-ghost use Rattle.prop.specs.Room.{«room_form», Arena};
-ghost use Rattle.arena.specs.Copy.{«most_records»};
+ghost use Rattle.layout.specs.File.{linked, prop_kind};
+ghost use Rattle.table.specs.Links.{all_links, prop_links};
+ghost use Rattle.prop.specs.Room.{room_form, Arena};
+ghost use Rattle.arena.specs.Copy.{most_records};
 ghost use Rattle.arena.specs.Make.{OneIs, PutIs, ForAllIs, LinkIs, ConstantIs};
 
 use super::copy::{Change, copy, one_more};
@@ -24,8 +24,8 @@ pub enum Made {
 pub fn put_in(props: &mut [u8], count: u16, left: u16, n: Proposition, s: Serial) -> Made
     requires arena { Arena props.old count }
     requires n_lt_count { n.0 < count }
-    requires left_bound { count + left ≤ «most_records» }
-    requires most_records_in_bounds { 16 * «most_records» ≤ length props.old }
+    requires left_bound { count + left ≤ most_records }
+    requires most_records_in_bounds { 16 * most_records ≤ length props.old }
     ensures { PutIs props.old count left n.0 s.0 props.new result }
 {
     let Nodes::Within(_) = nodes_of(props, count, n, left) else {
@@ -48,8 +48,8 @@ pub fn make_forall(
 ) -> Made
     requires arena { Arena props.old count }
     requires n_lt_count { n.0 < count }
-    requires left_bound { count + left ≤ «most_records» }
-    requires most_records_in_bounds { 16 * «most_records» ≤ length props.old }
+    requires left_bound { count + left ≤ most_records }
+    requires most_records_in_bounds { 16 * most_records ≤ length props.old }
     ensures { ForAllIs props.old count left x.0 d.0 s.0 n.0 props.new result }
 {
     let Nodes::Within(k) = nodes_of(props, count, n, left) else {
@@ -78,10 +78,10 @@ pub fn make_forall(
 // One record, whose children are there.
 fn make_one(props: &mut [u8], count: u16, left: u16, r: Record) -> Made
     requires arena { Arena props.old count }
-    requires r_value { «room_form» r ≡ true }
-    requires r_value_2 { «all_links» (λ m. ltb m count) («prop_links» r) ≡ true }
-    requires left_bound { count + left ≤ «most_records» }
-    requires most_records_in_bounds { 16 * «most_records» ≤ length props.old }
+    requires r_value { room_form r ≡ true }
+    requires r_value_2 { all_links (λ m. ltb m count) (prop_links r) ≡ true }
+    requires left_bound { count + left ≤ most_records }
+    requires most_records_in_bounds { 16 * most_records ≤ length props.old }
     ensures { OneIs props.old count left r props.new result }
 {
     if left == 0 {
@@ -95,8 +95,8 @@ fn make_one(props: &mut [u8], count: u16, left: u16, r: Record) -> Made
 // True, or False.
 pub fn make_constant(props: &mut [u8], count: u16, left: u16, truth: bool) -> Made
     requires arena { Arena props.old count }
-    requires left_bound { count + left ≤ «most_records» }
-    requires most_records_in_bounds { 16 * «most_records» ≤ length props.old }
+    requires left_bound { count + left ≤ most_records }
+    requires most_records_in_bounds { 16 * most_records ≤ length props.old }
     ensures { ConstantIs truth props.old count left props.new result }
 {
     let kind = if truth { TRUE } else { FALSE };
@@ -127,9 +127,9 @@ fn make_link(
     requires arena { Arena props.old count }
     requires le_kind { (2 ≤ kind) × (kind < 5) }
     requires a_lt_count { (a.0 < count) × (b.0 < count) }
-    requires left_bound { count + left ≤ «most_records» }
-    requires most_records_in_bounds { 16 * «most_records» ≤ length props.old }
-    ensures { (l : Link) → «prop_kind» kind ≡ linked l → LinkIs l props.old count left a.0 b.0 props.new result }
+    requires left_bound { count + left ≤ most_records }
+    requires most_records_in_bounds { 16 * most_records ≤ length props.old }
+    ensures { (l : Link) → prop_kind kind ≡ linked l → LinkIs l props.old count left a.0 b.0 props.new result }
 {
     make_one(
         props,
@@ -149,8 +149,8 @@ fn make_link(
 pub fn make_and(props: &mut [u8], count: u16, left: u16, a: Proposition, b: Proposition) -> Made
     requires arena { Arena props.old count }
     requires a_lt_count { (a.0 < count) × (b.0 < count) }
-    requires left_bound { count + left ≤ «most_records» }
-    requires most_records_in_bounds { 16 * «most_records» ≤ length props.old }
+    requires left_bound { count + left ≤ most_records }
+    requires most_records_in_bounds { 16 * most_records ≤ length props.old }
     ensures { LinkIs and props.old count left a.0 b.0 props.new result }
 {
     make_link(props, count, left, AND, a, b)
@@ -159,8 +159,8 @@ pub fn make_and(props: &mut [u8], count: u16, left: u16, a: Proposition, b: Prop
 pub fn make_impl(props: &mut [u8], count: u16, left: u16, a: Proposition, b: Proposition) -> Made
     requires arena { Arena props.old count }
     requires a_lt_count { (a.0 < count) × (b.0 < count) }
-    requires left_bound { count + left ≤ «most_records» }
-    requires most_records_in_bounds { 16 * «most_records» ≤ length props.old }
+    requires left_bound { count + left ≤ most_records }
+    requires most_records_in_bounds { 16 * most_records ≤ length props.old }
     ensures { LinkIs imp props.old count left a.0 b.0 props.new result }
 {
     make_link(props, count, left, IMPL, a, b)

@@ -1,12 +1,12 @@
 // Resolving an annotation: its free names become the identifiers of their latest entries, unless one is unknown. An unknown name is found before
 // anything is made, and so goes before the limit.
 ghost use Rattle.std.specs.Prelude.{◌≡◌, ℕ, ◌+◌, ◌*◌, ◌<◌, ◌≤◌, length};
-ghost use Rattle.rules.specs.Prop.{«each_param»};
+ghost use Rattle.rules.specs.Prop.{each_param};
 ghost use Rattle.rules.specs.Context.{known};
 ghost use Rattle.prop.specs.Room.{params, room_at, TypeIn, Arena};
 ghost use Rattle.prop.specs.Atom.{passes};
-ghost use Rattle.arena.specs.Copy.{«most_records», names};
-ghost use Rattle.arena.specs.Resolve.{«all_known», ResolvedIs};
+ghost use Rattle.arena.specs.Copy.{most_records, names};
+ghost use Rattle.arena.specs.Resolve.{all_known, ResolvedIs};
 
 use super::copy::{Change, copy};
 use context::identifier_context::{Found, get_by_name};
@@ -42,7 +42,7 @@ fn is_known(p: Parameter, work: &[u8], len: usize) -> bool
 
 fn atom_known(r: Record, work: &[u8], len: usize) -> bool
     requires { 8 * len ≤ length work.now }
-    ensures { result ≡ «each_param» (known (names work.now len)) (params r) }
+    ensures { result ≡ each_param (known (names work.now len)) (params r) }
 {
     is_known(parameter_at(r, 0), work, len)
         & (is_known(parameter_at(r, 1), work, len)
@@ -54,7 +54,7 @@ fn all_known(props: &[u8], count: u16, n: Proposition, work: &[u8], len: usize) 
     requires arena { Arena props.now count }
     requires n_lt_count { n.0 < count }
     requires len_in_bounds { 8 * len ≤ length work.now }
-    ensures { (tables : ℕ) → result ≡ «all_known» work.now len (room_at tables props.now n.0) }
+    ensures { (tables : ℕ) → result ≡ all_known work.now len (room_at tables props.now n.0) }
 {
     let r = node_at(props, count, n);
     let kind = r.kind;
@@ -84,8 +84,8 @@ pub fn resolve(
 ) -> Resolved
     requires arena { Arena props.old count }
     requires type_in { TypeIn count t }
-    requires left_bound { count + left ≤ «most_records» }
-    requires most_records_in_bounds { 16 * «most_records» ≤ length props.old }
+    requires left_bound { count + left ≤ most_records }
+    requires most_records_in_bounds { 16 * most_records ≤ length props.old }
     requires len_in_bounds { 8 * len ≤ length work.now }
     ensures { ResolvedIs props.old count left work.now len t props.new result }
 {

@@ -3,12 +3,12 @@
 #![tactic(auto)]
 
 ghost use Rattle.prop.specs.Room.{TypeIn};
-ghost use Rattle.step.specs.declared.state.Want.«TheVariants».{Check, Synth};
+ghost use Rattle.step.specs.declared.state.Want.TheVariants.{Check, Synth};
 ghost use Rattle.layout.specs.File.{term_record};
 ghost use Rattle.step.specs.Rooms.{count_of, rooms};
 ghost use Rattle.step.specs.Modes.{WantIn};
 ghost use Rattle.step.specs.Contract.{Ready, RanAs};
-ghost use Rattle.rule.specs.Going.{Begins, «begun_as»};
+ghost use Rattle.rule.specs.Going.{Begins, begun_as};
 
 use numbers::{Sort, Term};
 use rule::check::{begun_as, settle};
@@ -31,7 +31,7 @@ fn begin(
     requires want_in { WantIn (count_of file.now st) w }
     ensures { Begins file.now (rooms tree.old goals.old props.old work.old)
         (rooms tree.new goals.new props.new work.new)
-        k.0 («begun_as» (term_record file.now k.0).kind w) st result }
+        k.0 (begun_as (term_record file.now k.0).kind w) st result }
 {
     match begun_as(file, k, w) {
         Want::Synth => rule::synthesize::begin(file, tree, props, work, k, st),

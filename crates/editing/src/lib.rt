@@ -5,9 +5,9 @@ ghost use Rattle.std.specs.Prelude.{◌≡◌, ◌+◌, ◌*◌, ◌≤◌, leng
 ghost use Rattle.numbers.specs.Records.{record_at, Put};
 ghost use Rattle.layout.specs.File.{props, terms};
 ghost use Rattle.table.specs.Passing.{Counted, Directed, WellLinked};
-ghost use Rattle.table.specs.Tests.{«test_room»};
-ghost use Rattle.editing.specs.Edited.{recounted, term_bytes, «moved_term», «edited_size», «edited_bytes», Fillable, Edited};
-ghost use Rattle.editing.specs.Edited.{«edited_from_sizes», «edited_tests»};
+ghost use Rattle.table.specs.Tests.{test_room};
+ghost use Rattle.editing.specs.Edited.{recounted, term_bytes, moved_term, edited_size, edited_bytes, Fillable, Edited};
+ghost use Rattle.editing.specs.Edited.{edited_from_sizes, edited_tests};
 ghost use Rattle.editing.specs.Copied.{changed, RowMoves, Copied, Waiting};
 
 mod moving;
@@ -29,7 +29,7 @@ pub const EDITED: usize = 16
 pub fn edited_size(old: &[u8], filling: &[u8]) -> usize
     requires counted { Counted old.now }
     requires counted_2 { Counted filling.now }
-    ensures { (result ≡ «edited_size» old.now filling.now) × (result ≤ «edited_bytes») }
+    ensures { (result ≡ edited_size old.now filling.now) × (result ≤ edited_bytes) }
 {
     let p = proposition_count(old) + proposition_count(filling);
     let t = term_count(old) + term_count(filling) - 1;
@@ -59,7 +59,7 @@ pub fn moved_root(old: &[u8], filling: &[u8]) -> Record
     requires counted { Counted old.now }
     requires counted_2 { Counted filling.now }
     requires directed { Directed filling.now }
-    ensures { result ≡ «moved_term» (props old.now) (terms old.now) (term_bytes filling.now 0) }
+    ensures { result ≡ moved_term (props old.now) (terms old.now) (term_bytes filling.now 0) }
 {
     let root = term_record(filling, Term(0));
     move_term(root, proposition_count(old), term_count(old))
@@ -103,7 +103,7 @@ fn join(old: &[u8], filling: &[u8], table: &mut [u8])
     requires counted { Counted old.now }
     requires counted_2 { Counted filling.now }
     requires directed { Directed filling.now }
-    requires table_len { length table.old ≡ «edited_size» old.now filling.now }
+    requires table_len { length table.old ≡ edited_size old.now filling.now }
     ensures { Waiting old.now filling.now table.new }
 {
     let p = proposition_count(old);
@@ -131,7 +131,7 @@ fn join(old: &[u8], filling: &[u8], table: &mut [u8])
 // Document 01's file operation: the filling's root takes the place of the Sorry record.
 pub fn edit(old: &[u8], filling: &[u8], hole: Term, table: &mut [u8])
     requires fillable { Fillable old.now filling.now hole.0 }
-    requires table_len { length table.old ≡ «edited_size» old.now filling.now }
+    requires table_len { length table.old ≡ edited_size old.now filling.now }
     ensures { Edited old.now filling.now hole.0 table.new }
 {
     join(old, filling, table);
@@ -141,9 +141,9 @@ pub fn edit(old: &[u8], filling: &[u8], hole: Term, table: &mut [u8])
 
 // Tests 3 and 6, one after the other. An edited table passes the others by itself.
 pub fn test_edited(table: &[u8], work: &mut [u8]) -> Verdict
-    requires in_bounds { (16 ≤ length table.now) × («test_room» ≤ length work.old) }
+    requires in_bounds { (16 ≤ length table.now) × (test_room ≤ length work.old) }
     requires well_linked { WellLinked table.now }
-    ensures { result ≡ «edited_tests» table.now }
+    ensures { result ≡ edited_tests table.now }
 {
     if !well_counted(table) {
         return Verdict::Refused(Refusal::new(3, 0));
@@ -155,8 +155,8 @@ pub fn test_edited(table: &[u8], work: &mut [u8]) -> Verdict
 fn from_sizes(table: &[u8], work: &mut [u8]) -> Verdict
     requires counted { Counted table.now }
     requires well_linked { WellLinked table.now }
-    requires test_room_in_bounds { «test_room» ≤ length work.old }
-    ensures { result ≡ «edited_from_sizes» table.now }
+    requires test_room_in_bounds { test_room ≤ length work.old }
+    ensures { result ≡ edited_from_sizes table.now }
 {
     match oversized(table, work) {
         Guilty::At(i) => Verdict::Refused(Refusal::new(6, i)),

@@ -1,7 +1,7 @@
 // A record of the filling with its links moved: document 01, "Tree, goals, filling".
 ghost use Rattle.std.specs.Prelude.{◌≡◌, true, cond, ◌+◌, ◌≤◌};
-ghost use Rattle.numbers.specs.Limits.{«most_propositions»};
-ghost use Rattle.editing.specs.Edited.{«moved_prop», «moved_term»};
+ghost use Rattle.numbers.specs.Limits.{most_propositions};
+ghost use Rattle.editing.specs.Edited.{moved_prop, moved_term};
 ghost use Rattle.editing.specs.Copied.{changed, PropMoves, TermMoves, Moves};
 
 use layout::form::{prop_shape, term_shape};
@@ -18,7 +18,7 @@ pub enum Change {
 
 // A field moves where it is a link.
 fn moved(link: bool, field: u16, by: u16) -> u16
-    requires { (by ≤ «most_propositions») × (link ≡ true → field ≤ «most_propositions») }
+    requires { (by ≤ most_propositions) × (link ≡ true → field ≤ most_propositions) }
     ensures { result ≡ cond link (by + field) field }
 {
     if link { by + field } else { field }
@@ -27,7 +27,7 @@ fn moved(link: bool, field: u16, by: u16) -> u16
 // Two children, or a quantifier's body.
 fn move_prop(r: Record, p: u16) -> Record
     requires { PropMoves p r }
-    ensures { result ≡ «moved_prop» p r }
+    ensures { result ≡ moved_prop p r }
 {
     let s = prop_shape(r.kind);
     let x = moved(1 < s.children, r.a, p);
@@ -48,7 +48,7 @@ fn move_prop(r: Record, p: u16) -> Record
 // less than there are.
 pub fn move_term(r: Record, p: u16, t: u16) -> Record
     requires { TermMoves p t r }
-    ensures { result ≡ «moved_term» p t r }
+    ensures { result ≡ moved_term p t r }
 {
     let s = term_shape(r.kind);
     let typ = moved(r.count == 1, r.a, p);

@@ -3,10 +3,10 @@
 #![tactic(auto)]
 
 ghost use Rattle.std.specs.Prelude.{◌≡◌, ◌+◌, ◌≤◌, length};
-ghost use Rattle.table.specs.declared.Purpose.«TheVariants».{Check};
+ghost use Rattle.table.specs.declared.Purpose.TheVariants.{Check};
 ghost use Rattle.table.specs.Passing.{Good};
 ghost use Rattle.step.specs.Rooms.{rooms};
-ghost use Rattle.entry.specs.Mark.{«root_run», «table_run», MarkedAs, Marks};
+ghost use Rattle.entry.specs.Mark.{root_run, table_run, MarkedAs, Marks};
 ghost use Rattle.entry.specs.Ran.{Exact, RanAs};
 
 use arena::load::load;
@@ -39,7 +39,7 @@ pub enum Mark {
 fn run(file: &[u8], tree: &mut [u8], goals: &mut [u8], props: &mut [u8], work: &mut [u8]) -> Ran
     requires good { Good Check file.now }
     requires exact { Exact (rooms tree.old goals.old props.old work.old) }
-    ensures { RanAs file.now («root_run» file.now)
+    ensures { RanAs file.now (root_run file.now)
         (rooms tree.new goals.new props.new work.new) result }
 {
     load(file, work, props);
@@ -73,9 +73,9 @@ fn finish(
 ) -> Mark
     requires in_bounds { 16 ≤ length file.now }
     requires exact { Exact (rooms tree.old goals.old props.old work.old) }
-    requires ran_as { RanAs file.now («root_run» file.now) (rooms tree.old goals.old props.old work.old) answer }
+    requires ran_as { RanAs file.now (root_run file.now) (rooms tree.old goals.old props.old work.old) answer }
     ensures { MarkedAs file.now (rooms tree.old goals.old props.old work.old)
-        (rooms tree.new goals.new props.new work.new) («root_run» file.now) result }
+        (rooms tree.new goals.new props.new work.new) (root_run file.now) result }
 {
     match answer {
         Ran::Refused(e) => {
@@ -105,7 +105,7 @@ pub fn check_table(
 ) -> Mark
     requires { Exact (rooms tree.old goals.old props.old work.old) }
     ensures { MarkedAs file.now (rooms tree.old goals.old props.old work.old)
-        (rooms tree.new goals.new props.new work.new) («table_run» file.now) result }
+        (rooms tree.new goals.new props.new work.new) (table_run file.now) result }
 {
     if let Verdict::Refused(r) = test_table(file, work, Purpose::Check) {
         clear_rooms(tree, goals, props, work);

@@ -1,7 +1,7 @@
 // The lent rooms: how long they must be, and how they are left.
 ghost use Rattle.std.specs.Prelude.{◌≡◌, ◌*◌, ◌≤◌, length};
 ghost use Rattle.step.specs.Rooms.{rooms};
-ghost use Rattle.entry.specs.Mark.{«tree_bytes», «goals_bytes», «props_bytes», «work_bytes», «long_enough», Emptied};
+ghost use Rattle.entry.specs.Mark.{tree_bytes, goals_bytes, props_bytes, work_bytes, long_enough, Emptied};
 ghost use Rattle.entry.specs.Rest.{Rest, Trimmed};
 
 use numbers::room::{clear, fill_zero};
@@ -18,7 +18,7 @@ pub const PROPOSITIONS: usize = 16 * (Proposition::LIMIT as usize + Proposition:
 pub const WORK: usize = 65536;
 
 pub fn long_enough(tree: &[u8], goals: &[u8], props: &[u8], work: &[u8]) -> bool
-    ensures { result ≡ «long_enough» (rooms tree.now goals.now props.now work.now) }
+    ensures { result ≡ long_enough (rooms tree.now goals.now props.now work.now) }
 {
     (TREE <= tree.len())
         & ((GOALS <= goals.len()) & ((PROPOSITIONS <= props.len()) & (WORK <= work.len())))
@@ -53,9 +53,9 @@ pub fn clear_rest(
     holes: u16,
     count: u16,
 )
-    requires records_bound { (16 * records ≤ «tree_bytes») × («tree_bytes» ≤ length tree.old) }
-    requires holes_bound { (8 * holes ≤ «goals_bytes») × («goals_bytes» ≤ length goals.old) }
-    requires count_bound { (16 * count ≤ «props_bytes») × («props_bytes» ≤ length props.old) }
+    requires records_bound { (16 * records ≤ tree_bytes) × (tree_bytes ≤ length tree.old) }
+    requires holes_bound { (8 * holes ≤ goals_bytes) × (goals_bytes ≤ length goals.old) }
+    requires count_bound { (16 * count ≤ props_bytes) × (props_bytes ≤ length props.old) }
     ensures { Rest records holes count (rooms tree.old goals.old props.old work.old)
         (rooms tree.new goals.new props.new work.new) }
 {

@@ -1,6 +1,6 @@
 // Answers as records of 16 bytes, for a caller that has none of our types.
 ghost use Rattle.std.specs.Prelude.{◌≡◌};
-ghost use Rattle.export.specs.Answer.{«accepted_record», «refused_record», «table_number», «verdict_record», «mark_record», «filled_record»};
+ghost use Rattle.export.specs.Answer.{accepted_record, refused_record, table_number, verdict_record, mark_record, filled_record};
 
 use entry::{Counts, Mark};
 use filling::answer::{Filled, Which};
@@ -9,7 +9,7 @@ use numbers::refusal::Refusal;
 use table::Verdict;
 
 fn accepted(n: Counts) -> Record
-    ensures { result ≡ «accepted_record» n }
+    ensures { result ≡ accepted_record n }
 {
     Record {
         kind: 0,
@@ -22,7 +22,7 @@ fn accepted(n: Counts) -> Record
 }
 
 fn refused(e: Refusal, table: u16) -> Record
-    ensures { result ≡ «refused_record» e table }
+    ensures { result ≡ refused_record e table }
 {
     Record {
         kind: 1,
@@ -35,7 +35,7 @@ fn refused(e: Refusal, table: u16) -> Record
 }
 
 fn table_number(which: Which) -> u16
-    ensures { result ≡ «table_number» which }
+    ensures { result ≡ table_number which }
 {
     match which {
         Which::Old => 0,
@@ -45,7 +45,7 @@ fn table_number(which: Which) -> u16
 }
 
 pub fn of_verdict(v: Verdict) -> Record
-    ensures { result ≡ «verdict_record» v }
+    ensures { result ≡ verdict_record v }
 {
     match v {
         Verdict::Passes => {
@@ -61,7 +61,7 @@ pub fn of_verdict(v: Verdict) -> Record
 }
 
 pub fn of_mark(m: Mark) -> Record
-    ensures { result ≡ «mark_record» m }
+    ensures { result ≡ mark_record m }
 {
     match m {
         Mark::Accepted(n) => accepted(n),
@@ -70,7 +70,7 @@ pub fn of_mark(m: Mark) -> Record
 }
 
 pub fn of_filled(f: Filled) -> Record
-    ensures { result ≡ «filled_record» f }
+    ensures { result ≡ filled_record f }
 {
     match f {
         Filled::Accepted(n) => accepted(n),

@@ -1,7 +1,7 @@
 // The checker for C: tables and rooms are pointers with lengths, and the answer is a record of bytes (include/sporekettle.h). Any bytes, any lengths.
 #![tactic(auto)]
 
-ghost use Rattle.table.specs.declared.Purpose.«TheVariants».{Check, Filling};
+ghost use Rattle.table.specs.declared.Purpose.TheVariants.{Check, Filling};
 ghost use Rattle.step.specs.Rooms.{rooms};
 ghost use Rattle.filling.specs.Fill.{lent};
 ghost use Rattle.export.specs.Answer.{TestReturns, CheckReturns, FillReturns};

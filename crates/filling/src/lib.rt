@@ -4,7 +4,7 @@
 
 ghost use Rattle.editing.specs.Edited.{Fillable};
 ghost use Rattle.step.specs.Rooms.{rooms};
-ghost use Rattle.entry.specs.Mark.{«table_run»};
+ghost use Rattle.entry.specs.Mark.{table_run};
 ghost use Rattle.filling.specs.Fill.{lent, OldAs, Fills};
 ghost use Rattle.filling.specs.Steps.{ExactAll, OldRan, HoleAt, FillsHole, FillsGoal};
 
@@ -95,7 +95,7 @@ fn fill_table(
     requires { ExactAll (lent tree.old goals.old props.old work.old edited.old) }
     ensures { OldAs (lent tree.old goals.old props.old work.old edited.old)
         (lent tree.new goals.new props.new work.new edited.new) old.now
-        filling.now goal result («table_run» old.now) }
+        filling.now goal result (table_run old.now) }
 {
     match check_table(old, tree, goals, props, work) {
         Mark::Refused(e) => refuse(tree, goals, props, work, edited, e, Which::Old),

@@ -1,6 +1,6 @@
 // The filling's own run, from the hole.
 ghost use Rattle.std.specs.Prelude.{◌≤◌, length, take};
-ghost use Rattle.table.specs.declared.Purpose.«TheVariants».{Check};
+ghost use Rattle.table.specs.declared.Purpose.TheVariants.{Check};
 ghost use Rattle.table.specs.Passing.{Good};
 ghost use Rattle.editing.specs.Edited.{Fillable, Edited};
 ghost use Rattle.step.specs.Rooms.{rooms};

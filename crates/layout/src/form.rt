@@ -1,7 +1,7 @@
 // Kinds: what each of them uses of its record, one decision for propositions and one for terms.
 ghost use Rattle.std.specs.Prelude.{◌≡◌};
-ghost use Rattle.layout.specs.File.{«prop_kind», «kind_of»};
-ghost use Rattle.layout.specs.Form.{«prop_shape», «term_shape»};
+ghost use Rattle.layout.specs.File.{prop_kind, kind_of};
+ghost use Rattle.layout.specs.Form.{prop_shape, term_shape};
 
 // What a kind of proposition uses: of the fields a, b and c the first so many; so many children; and this range of parameter
 // counts, an empty one for a kind that is not known.
@@ -35,7 +35,7 @@ fn prop_row(fields: u8, children: u8, least: u8, most: u8) -> PropShape
 
 // One decision over the eight kinds of proposition.
 pub fn prop_shape(kind: u8) -> PropShape
-    ensures { result ≡ «prop_shape» («prop_kind» kind) }
+    ensures { result ≡ prop_shape (prop_kind kind) }
 {
     match kind {
         0 => prop_row(0, 0, 0, 0),
@@ -63,7 +63,7 @@ fn term_row(names: u8, children: u8, least: u8, most: u8) -> TermShape
 
 // One decision over the fourteen kinds of term.
 pub fn term_shape(kind: u8) -> TermShape
-    ensures { result ≡ «term_shape» («kind_of» kind) }
+    ensures { result ≡ term_shape (kind_of kind) }
 {
     match kind {
         0 => term_row(1, 0, 0, 0),

@@ -1,6 +1,6 @@
 // The header's numbers, and the length that goes with them.
 ghost use Rattle.std.specs.Prelude.{◌≡◌, ◌≤◌, length};
-ghost use Rattle.layout.specs.File.{props, terms, expected, «file_size»};
+ghost use Rattle.layout.specs.File.{props, terms, expected, file_size};
 
 use numbers::Proposition;
 use numbers::record::word;
@@ -28,7 +28,7 @@ pub fn expected_field(file: &[u8]) -> Proposition
 
 // How many bytes a file with p propositions and t terms has.
 pub fn file_size(p: u16, t: u16) -> usize
-    ensures { result ≡ «file_size» p t }
+    ensures { result ≡ file_size p t }
 {
     16 + (16 * (p as usize) + 16 * (t as usize))
 }

@@ -2,7 +2,7 @@
 // kinds (0 free, 1 identifier, 2 bound) in b, two bits each, the first lowest. What is not used is zero.
 ghost use Rattle.std.specs.Prelude.{◌≡◌, not, ◌<◌};
 ghost use Rattle.rules.specs.Prop.{other};
-ghost use Rattle.prop.specs.Atom.{«kind_at», «number_at», parameter_at, passes, «kind_in», «number_in», «with_parameters»};
+ghost use Rattle.prop.specs.Atom.{kind_at, number_at, parameter_at, passes, kind_in, number_in, with_parameters};
 
 use numbers::record::Record;
 use numbers::{Name, Serial};
@@ -17,7 +17,7 @@ pub enum Parameter {
 }
 
 fn kind_at(r: Record, i: u8) -> u16
-    ensures { result ≡ «kind_at» r i }
+    ensures { result ≡ kind_at r i }
 {
     let b = r.b;
     match i {
@@ -29,7 +29,7 @@ fn kind_at(r: Record, i: u8) -> u16
 }
 
 fn number_at(r: Record, i: u8) -> u16
-    ensures { result ≡ «number_at» r i }
+    ensures { result ≡ number_at r i }
 {
     match i {
         0 => r.parameters[0],
@@ -63,7 +63,7 @@ pub fn is_at(r: Record, i: u8, s: Serial) -> bool
 }
 
 fn kind_of(p: Parameter) -> u16
-    ensures { (result ≡ «kind_in» p) × (result < 3) }
+    ensures { (result ≡ kind_in p) × (result < 3) }
 {
     match p {
         Parameter::Free(_) => 0,
@@ -74,7 +74,7 @@ fn kind_of(p: Parameter) -> u16
 }
 
 fn number_of(p: Parameter) -> u16
-    ensures { result ≡ «number_in» p }
+    ensures { result ≡ number_in p }
 {
     match p {
         Parameter::Free(x) => x.0,
@@ -86,7 +86,7 @@ fn number_of(p: Parameter) -> u16
 
 // The atom r with these in its four places.
 pub fn with_parameters(r: Record, p: Parameter, q: Parameter, s: Parameter, t: Parameter) -> Record
-    ensures { result ≡ «with_parameters» r p q s t }
+    ensures { result ≡ with_parameters r p q s t }
 {
     Record {
         kind: r.kind,

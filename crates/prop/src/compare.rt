@@ -1,7 +1,7 @@
 // Two propositions, or two types, held against each other: equal, with binder names; alpha-equal, without; or neither. One walk answers both.
 ghost use Rattle.std.specs.Prelude.{◌≡◌, ◌&&◌, ℕ, ◌<◌, eqb};
 ghost use Rattle.prop.specs.Room.{room_at, type_at, TypeIn, Arena};
-ghost use Rattle.prop.specs.Compare.{compared, both, «is_alpha», «same_fields», «compared_props», «compared_types»};
+ghost use Rattle.prop.specs.Compare.{compared, both, is_alpha, same_fields, compared_props, compared_types};
 
 use super::node::{AND, ATOM, EXISTS, FALSE, FOR_ALL, IMPL, TRUE, node_at};
 use numbers::record::Record;
@@ -16,7 +16,7 @@ pub enum Compared {
 
 // What is equal is alpha-equal too.
 pub fn is_alpha(c: Compared) -> bool
-    ensures { result ≡ «is_alpha» c }
+    ensures { result ≡ is_alpha c }
 {
     match c {
         Compared::Equal => true,
@@ -56,7 +56,7 @@ fn binders(r: Record, s: Record) -> Compared
 
 // Two atoms, field by field: what is not used is zero.
 fn atoms(r: Record, s: Record) -> Compared
-    ensures { result ≡ compared («same_fields» r s) («same_fields» r s) }
+    ensures { result ≡ compared (same_fields r s) (same_fields r s) }
 {
     let parameters = (r.parameters[0] == s.parameters[0])
         & ((r.parameters[1] == s.parameters[1])
@@ -73,7 +73,7 @@ pub fn compare(props: &[u8], count: u16, a: Proposition, b: Proposition) -> Comp
     requires arena { Arena props.now count }
     requires a_lt_count { a.0 < count }
     requires b_lt_count { b.0 < count }
-    ensures { (tables : ℕ) → result ≡ «compared_props» (room_at tables props.now a.0) (room_at tables props.now b.0) }
+    ensures { (tables : ℕ) → result ≡ compared_props (room_at tables props.now a.0) (room_at tables props.now b.0) }
 {
     let x = a.0;
     let y = b.0;
@@ -117,7 +117,7 @@ pub fn compare_types(props: &[u8], count: u16, s: Sort, t: Sort) -> Compared
     requires arena { Arena props.now count }
     requires type_in { TypeIn count s }
     requires type_in_2 { TypeIn count t }
-    ensures { (tables : ℕ) → result ≡ «compared_types» (type_at tables props.now s) (type_at tables props.now t) }
+    ensures { (tables : ℕ) → result ≡ compared_types (type_at tables props.now s) (type_at tables props.now t) }
 {
     match s {
         Sort::Proposition(a) => match t {

@@ -1,9 +1,9 @@
 // A type taken apart at its head, as the rules ask: the two parts of And, Or and Impl, the datatype and the body of ForAll and Exists; or it is no such one.
 ghost use Rattle.std.specs.Prelude.{◌≡◌, true, cond, ℕ};
 ghost use Rattle.rules.specs.Prop.{const, made, prop, eq};
-ghost use Rattle.layout.specs.File.{linked, quantified, «prop_kind»};
+ghost use Rattle.layout.specs.File.{linked, quantified, prop_kind};
 ghost use Rattle.prop.specs.Room.{type_at, TypeIn, Arena};
-ghost use Rattle.prop.specs.Head.{«link_of», «quant_of», SplitAs, OverAs};
+ghost use Rattle.prop.specs.Head.{link_of, quant_of, SplitAs, OverAs};
 
 use super::node::{AND, EXISTS, FOR_ALL, IMPL, OR, TRUE, node_at};
 use numbers::{Name, Proposition, Sort};
@@ -36,7 +36,7 @@ pub enum Quantified {
 }
 
 fn link_kind(l: Link) -> u8
-    ensures { «prop_kind» result ≡ linked («link_of» l) }
+    ensures { prop_kind result ≡ linked (link_of l) }
 {
     match l {
         Link::And => AND,
@@ -46,7 +46,7 @@ fn link_kind(l: Link) -> u8
 }
 
 fn quant_kind(q: Quant) -> u8
-    ensures { «prop_kind» result ≡ quantified («quant_of» q) }
+    ensures { prop_kind result ≡ quantified (quant_of q) }
 {
     match q {
         Quant::All => FOR_ALL,
@@ -58,7 +58,7 @@ fn quant_kind(q: Quant) -> u8
 pub fn split(props: &[u8], count: u16, t: Sort, l: Link) -> Parts
     requires arena { Arena props.now count }
     requires type_in { TypeIn count t }
-    ensures { SplitAs («link_of» l) props.now count t result }
+    ensures { SplitAs (link_of l) props.now count t result }
 {
     let Sort::Proposition(n) = t else {
         return Parts::Other;
@@ -75,7 +75,7 @@ pub fn split(props: &[u8], count: u16, t: Sort, l: Link) -> Parts
 pub fn over(props: &[u8], count: u16, t: Sort, q: Quant) -> Quantified
     requires arena { Arena props.now count }
     requires type_in { TypeIn count t }
-    ensures { OverAs («quant_of» q) props.now count t result }
+    ensures { OverAs (quant_of q) props.now count t result }
 {
     let Sort::Proposition(n) = t else {
         return Quantified::Other;

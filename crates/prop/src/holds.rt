@@ -1,6 +1,6 @@
 // Whether an identifier occurs in a proposition.
 ghost use Rattle.std.specs.Prelude.{◌≡◌, not, ℕ, ◌<◌};
-ghost use Rattle.rules.specs.Prop.{other, «each_param», holds};
+ghost use Rattle.rules.specs.Prop.{other, each_param, holds};
 ghost use Rattle.prop.specs.Room.{params, room_at, Arena};
 
 use super::atom::is_at;
@@ -9,7 +9,7 @@ use numbers::record::Record;
 use numbers::{Proposition, Serial};
 
 fn atom_holds(r: Record, s: Serial) -> bool
-    ensures { result ≡ not («each_param» (other s.0) (params r)) }
+    ensures { result ≡ not (each_param (other s.0) (params r)) }
 {
     is_at(r, 0, s) | (is_at(r, 1, s) | (is_at(r, 2, s) | is_at(r, 3, s)))
 }

@@ -5,11 +5,11 @@ ghost use Rattle.numbers.specs.Limits.{largest};
 ghost use Rattle.numbers.specs.declared.Sort.{Sort};
 ghost use Rattle.layout.specs.File.{terms, term_record};
 ghost use Rattle.prop.specs.Room.{TypeIn};
-ghost use Rattle.step.specs.declared.state.Want.«TheVariants».{Check, Synth};
+ghost use Rattle.step.specs.declared.state.Want.TheVariants.{Check, Synth};
 ghost use Rattle.step.specs.Rooms.{Rooms, count_of, rooms};
 ghost use Rattle.rules.specs.Prop.{imp};
 ghost use Rattle.prop.specs.Head.{Unsplit};
-ghost use Rattle.rule.specs.declared.next.Rest.«TheVariants».{Argument, Concludes, Instance};
+ghost use Rattle.rule.specs.declared.next.Rest.TheVariants.{Argument, Concludes, Instance};
 ghost use Rattle.rule.specs.Going.{Here, Room, Begins, Resumes};
 
 use super::next::{Next, Rest, Rule, by};

@@ -3,7 +3,7 @@
 ghost use Rattle.std.specs.Prelude.{◌≡◌, List, ℕ, ◌*◌, ◌≤◌, length};
 ghost use Rattle.layout.specs.File.{term_record};
 ghost use Rattle.prop.specs.Room.{TypeIn};
-ghost use Rattle.step.specs.declared.state.Want.«TheVariants».{Check, Synth};
+ghost use Rattle.step.specs.declared.state.Want.TheVariants.{Check, Synth};
 ghost use Rattle.step.specs.Rooms.{count_of, rooms};
 ghost use Rattle.rule.specs.Going.{Begun, Begins};
 

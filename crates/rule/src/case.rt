@@ -5,10 +5,10 @@ ghost use Rattle.std.specs.Prelude.{◌≡◌, List, ℕ, ◌+◌, ◌*◌, ◌<
 ghost use Rattle.numbers.specs.Limits.{largest};
 ghost use Rattle.layout.specs.File.{term_record};
 ghost use Rattle.prop.specs.Room.{TypeIn};
-ghost use Rattle.step.specs.declared.state.Want.«TheVariants».{Check, Synth};
+ghost use Rattle.step.specs.declared.state.Want.TheVariants.{Check, Synth};
 ghost use Rattle.step.specs.Rooms.{Table, Rooms, count_of, rooms};
 ghost use Rattle.step.specs.Modes.{WantIn};
-ghost use Rattle.rule.specs.declared.next.Rest.«TheVariants».{CaseLeft, CaseRight, CaseEnd};
+ghost use Rattle.rule.specs.declared.next.Rest.TheVariants.{CaseLeft, CaseRight, CaseEnd};
 ghost use Rattle.rule.specs.Going.{Here, Room, Fresh, Begins, Resumes, ArmsAs};
 
 use super::next::{Next, Rest, Rule};

@@ -4,10 +4,10 @@ ghost use Rattle.std.specs.Prelude.{◌≡◌, ◌<◌, true, false};
 ghost use Rattle.layout.specs.File.{terms, term_record};
 ghost use Rattle.table.specs.Passing.{Counted};
 ghost use Rattle.prop.specs.Room.{TypeIn};
-ghost use Rattle.step.specs.declared.state.Want.«TheVariants».{Check};
+ghost use Rattle.step.specs.declared.state.Want.TheVariants.{Check};
 ghost use Rattle.step.specs.Rooms.{count_of, rooms};
 ghost use Rattle.step.specs.Contract.{Ready, RanAs, synthesizes};
-ghost use Rattle.rule.specs.Going.{Begins, Ended, «begun_as»};
+ghost use Rattle.rule.specs.Going.{Begins, Ended, begun_as};
 
 use super::next::Next;
 use super::{abort, ascription, case, function, let_in, or, pair, sorry, unit};
@@ -27,7 +27,7 @@ fn compares(kind: u8) -> bool
 // How term k is begun, if this is wanted of it.
 pub fn begun_as(file: &[u8], k: Term, w: Want) -> Want
     requires { Counted file.now × (k.0 < terms file.now) }
-    ensures { result ≡ «begun_as» (term_record file.now k.0).kind w }
+    ensures { result ≡ begun_as (term_record file.now k.0).kind w }
 {
     let r = term_record(file, k);
     if compares(r.kind) { Want::Synth } else { w }

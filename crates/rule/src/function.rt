@@ -4,9 +4,9 @@ ghost use Rattle.std.specs.Prelude.{◌≡◌, List, ℕ, ◌+◌, ◌*◌, ◌<
 ghost use Rattle.numbers.specs.Limits.{largest};
 ghost use Rattle.layout.specs.File.{term_record};
 ghost use Rattle.prop.specs.Room.{TypeIn};
-ghost use Rattle.step.specs.declared.state.Want.«TheVariants».{Check, Synth};
+ghost use Rattle.step.specs.declared.state.Want.TheVariants.{Check, Synth};
 ghost use Rattle.step.specs.Rooms.{count_of, rooms};
-ghost use Rattle.rule.specs.declared.next.Rest.«TheVariants».{Closes, Abstracts};
+ghost use Rattle.rule.specs.declared.next.Rest.TheVariants.{Closes, Abstracts};
 ghost use Rattle.rule.specs.Going.{Here, Room, Begun, Begins, Resumes};
 
 use super::next::{Next, Rest, Rule};

@@ -1,7 +1,7 @@
 // Ident, synthesized: its latest entry, else 20. (Checked, it is compared.)
 ghost use Rattle.std.specs.Prelude.{◌≡◌, List, ℕ, ◌*◌, ◌≤◌, length};
 ghost use Rattle.layout.specs.File.{term_record};
-ghost use Rattle.step.specs.declared.state.Want.«TheVariants».{Synth};
+ghost use Rattle.step.specs.declared.state.Want.TheVariants.{Synth};
 ghost use Rattle.step.specs.Rooms.{rooms};
 ghost use Rattle.rule.specs.Going.{Here, Place, Begins};
 

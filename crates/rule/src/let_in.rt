@@ -4,10 +4,10 @@ ghost use Rattle.std.specs.Prelude.{◌≡◌, List, ℕ, ◌+◌, ◌*◌, ◌<
 ghost use Rattle.numbers.specs.Limits.{largest};
 ghost use Rattle.layout.specs.File.{term_record};
 ghost use Rattle.prop.specs.Room.{TypeIn};
-ghost use Rattle.step.specs.declared.state.Want.«TheVariants».{Synth};
+ghost use Rattle.step.specs.declared.state.Want.TheVariants.{Synth};
 ghost use Rattle.step.specs.Rooms.{Rooms, count_of, rooms};
 ghost use Rattle.step.specs.Modes.{WantIn};
-ghost use Rattle.rule.specs.declared.next.Rest.«TheVariants».{LetBody, LetEnd};
+ghost use Rattle.rule.specs.declared.next.Rest.TheVariants.{LetBody, LetEnd};
 ghost use Rattle.rule.specs.Going.{Here, Room, FreshTwo, Begins, Resumes};
 
 use super::next::{Next, Rest, Rule};

@@ -1,7 +1,7 @@
 // A rule's program cut at its premises, and how a rule ends.
 ghost use Rattle.std.specs.Prelude.{List, ℕ, ◌+◌, ◌*◌, ◌≤◌, length};
 ghost use Rattle.step.specs.Rooms.{rooms};
-ghost use Rattle.rule.specs.declared.next.Rest.«TheVariants».{By};
+ghost use Rattle.rule.specs.declared.next.Rest.TheVariants.{By};
 ghost use Rattle.rule.specs.Going.{Resumes};
 
 use numbers::refusal::Refusal;

@@ -3,9 +3,9 @@ ghost use Rattle.std.specs.Prelude.{List, ℕ, ◌+◌, ◌*◌, ◌<◌, ◌≤
 ghost use Rattle.numbers.specs.Limits.{largest};
 ghost use Rattle.layout.specs.File.{term_record};
 ghost use Rattle.prop.specs.Room.{TypeIn};
-ghost use Rattle.step.specs.declared.state.Want.«TheVariants».{Synth};
+ghost use Rattle.step.specs.declared.state.Want.TheVariants.{Synth};
 ghost use Rattle.step.specs.Rooms.{Rooms, count_of, rooms};
-ghost use Rattle.rule.specs.declared.next.Rest.«TheVariants».{Part};
+ghost use Rattle.rule.specs.declared.next.Rest.TheVariants.{Part};
 ghost use Rattle.rule.specs.Going.{Here, Room, Begins, Resumes};
 
 use super::next::{Next, Rest, Rule, by};

@@ -3,10 +3,10 @@ ghost use Rattle.std.specs.Prelude.{◌≡◌, List, ℕ, ◌+◌, ◌*◌, ◌<
 ghost use Rattle.numbers.specs.Limits.{largest};
 ghost use Rattle.layout.specs.File.{term_record};
 ghost use Rattle.prop.specs.Room.{TypeIn};
-ghost use Rattle.step.specs.declared.state.Want.«TheVariants».{Check};
+ghost use Rattle.step.specs.declared.state.Want.TheVariants.{Check};
 ghost use Rattle.step.specs.Rooms.{count_of, rooms};
-ghost use Rattle.context.specs.Context.{«most_entries»};
-ghost use Rattle.step.specs.Rooms.{«run_room»};
+ghost use Rattle.context.specs.Context.{most_entries};
+ghost use Rattle.step.specs.Rooms.{run_room};
 ghost use Rattle.rule.specs.Going.{Place, Begins};
 
 use super::next::Next;
@@ -25,7 +25,7 @@ pub fn check(
 ) -> Next
     requires place { Place tree.old st }
     requires goals_in_bounds { (8 * st.goals + 8 ≤ length goals.old) × (st.goals < largest) }
-    requires run_room_in_bounds { («run_room» ≤ length work.old) × (st.context ≤ «most_entries») }
+    requires run_room_in_bounds { (run_room ≤ length work.old) × (st.context ≤ most_entries) }
     ensures { (l ps : List ℕ) → TypeIn (count_of l st) wanted → (term_record l k.0).kind ≡ 13 → Begins l
         (rooms tree.old goals.old ps work.old) (rooms tree.new goals.new ps work.new)
         k.0 (Check wanted) st result }

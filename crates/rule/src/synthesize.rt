@@ -1,6 +1,6 @@
 // A term asked for its type, up to its first premise.
 ghost use Rattle.std.specs.Prelude.{List, ℕ};
-ghost use Rattle.step.specs.declared.state.Want.«TheVariants».{Synth};
+ghost use Rattle.step.specs.declared.state.Want.TheVariants.{Synth};
 ghost use Rattle.step.specs.Rooms.{rooms};
 ghost use Rattle.step.specs.Contract.{Ready};
 ghost use Rattle.rule.specs.Going.{Begins};

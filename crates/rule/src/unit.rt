@@ -2,7 +2,7 @@
 ghost use Rattle.std.specs.Prelude.{◌≡◌, List, ℕ};
 ghost use Rattle.layout.specs.File.{term_record};
 ghost use Rattle.prop.specs.Room.{TypeIn};
-ghost use Rattle.step.specs.declared.state.Want.«TheVariants».{Check, Synth};
+ghost use Rattle.step.specs.declared.state.Want.TheVariants.{Check, Synth};
 ghost use Rattle.step.specs.Rooms.{count_of, rooms};
 ghost use Rattle.rule.specs.Going.{Here, Room, Place, Begins};
 

@@ -6,8 +6,8 @@ ghost use Rattle.rules.specs.State.{limit};
 ghost use Rattle.layout.specs.File.{terms};
 ghost use Rattle.prop.specs.Room.{TypeIn};
 ghost use Rattle.table.specs.Passing.{Counted};
-ghost use Rattle.context.specs.Context.{«context_room», «most_entries»};
-ghost use Rattle.step.specs.Rooms.{count_of, Loaded, Table, «most_serials»};
+ghost use Rattle.context.specs.Context.{context_room, most_entries};
+ghost use Rattle.step.specs.Rooms.{count_of, Loaded, Table, most_serials};
 ghost use Rattle.step.specs.Steps.{OpenedAs, ObjectAs, EnteredAs, ClosedAs, AbstractedAs};
 
 use super::enter::enter_fresh;
@@ -117,7 +117,7 @@ pub fn open_let(
     requires counted { Counted file.now }
     requires loaded { Loaded file.now props.old (count_of file.now st) }
     requires type_in { TypeIn (count_of file.now st) t × (st.made ≤ limit) }
-    requires context_bound { (st.context + 2 ≤ «most_entries») × («context_room» ≤ length work.old) × (st.serials + 2 ≤ «most_serials») }
+    requires context_bound { (st.context + 2 ≤ most_entries) × (context_room ≤ length work.old) × (st.serials + 2 ≤ most_serials) }
     ensures { EnteredAs file.now props.old work.old props.new work.new r.name1.0
         r.name2.0 w t k.0 r.child1.0 st result }
 {

@@ -1,7 +1,7 @@
 // The picture of a goal: what the rules knew at one Sorry of a run, kept in the work room behind the context's entries, for a filling to start from.
 ghost use Rattle.std.specs.Prelude.{◌≡◌, ◌⊎◌, ◌+◌, ◌*◌, ◌≤◌, length};
-ghost use Rattle.context.specs.Context.{«most_entries»};
-ghost use Rattle.step.specs.Rooms.{«first_pictured», «run_room»};
+ghost use Rattle.context.specs.Context.{most_entries};
+ghost use Rattle.step.specs.Rooms.{first_pictured, run_room};
 ghost use Rattle.step.specs.Picture.{pictured_state, pictured_type, Copied, Taken, Pictured};
 
 use super::state::State;
@@ -43,7 +43,7 @@ fn copy_entries(work: &mut [u8], from: usize, to: usize, n: usize)
 
 // What is known at a Sorry that wants this type.
 fn take(work: &mut [u8], wanted: Sort, st: State)
-    requires { («run_room» ≤ length work.old) × (st.context ≤ «most_entries») }
+    requires { (run_room ≤ length work.old) × (st.context ≤ most_entries) }
     ensures { Taken work.old wanted st work.new }
 {
     put_word(work, SERIALS, st.serials);
@@ -60,7 +60,7 @@ fn take(work: &mut [u8], wanted: Sort, st: State)
 
 // The same, if the next goal is the one that is asked for.
 pub fn picture(work: &mut [u8], wanted: Sort, st: State)
-    requires { («run_room» ≤ length work.old) × (st.context ≤ «most_entries») }
+    requires { (run_room ≤ length work.old) × (st.context ≤ most_entries) }
     ensures { Pictured work.old wanted st work.new }
 {
     if st.asked == st.goals {
@@ -70,9 +70,9 @@ pub fn picture(work: &mut [u8], wanted: Sort, st: State)
 
 // The hole's entries are the context again.
 pub fn recall(work: &mut [u8]) -> Start
-    requires { («run_room» ≤ length work.old) × ((pictured_state work.old).context ≤ «most_entries») }
+    requires { (run_room ≤ length work.old) × ((pictured_state work.old).context ≤ most_entries) }
     ensures { (result.wanted ≡ pictured_type work.old) × (result.state ≡ pictured_state work.old) × Copied work.old
-        «first_pictured» 0 (pictured_state work.old).context work.new }
+        first_pictured 0 (pictured_state work.old).context work.new }
 {
     let e = entry_at(work, TYPE);
     let wanted = e.typ;

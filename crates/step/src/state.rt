@@ -3,9 +3,9 @@ ghost use Rattle.std.specs.Prelude.{◌≡◌, ◌+◌, ◌<◌, ◌≤◌, leng
 ghost use Rattle.numbers.specs.Limits.{largest};
 ghost use Rattle.rules.specs.State.{limit};
 ghost use Rattle.layout.specs.File.{props, terms, term_record};
-ghost use Rattle.arena.specs.Copy.{«most_records»};
+ghost use Rattle.arena.specs.Copy.{most_records};
 ghost use Rattle.table.specs.Passing.{Counted};
-ghost use Rattle.step.specs.Modes.{«answer_of», «number_of»};
+ghost use Rattle.step.specs.Modes.{answer_of, number_of};
 ghost use Rattle.step.specs.Rooms.{count_of, inner, leaving};
 
 use layout::header::proposition_count;
@@ -46,7 +46,7 @@ pub enum Ran {
 
 // The type that a rule answers: the wanted one, else what was found.
 pub fn answered(w: Want, t: Sort) -> Sort
-    ensures { result ≡ «answer_of» w t }
+    ensures { result ≡ answer_of w t }
 {
     match w {
         Want::Synth => t,
@@ -56,7 +56,7 @@ pub fn answered(w: Want, t: Sort) -> Sort
 
 // Of two refusal numbers, as 12 / 22, the first is for checking and the second for synthesis.
 pub fn of(w: Want, a: u8, b: u8) -> u8
-    ensures { result ≡ «number_of» w a b }
+    ensures { result ≡ number_of w a b }
 {
     match w {
         Want::Synth => b,
@@ -67,7 +67,7 @@ pub fn of(w: Want, a: u8, b: u8) -> u8
 // How many propositions the room holds: the table's, and those made.
 pub fn count_of(file: &[u8], st: State) -> u16
     requires in_bounds { 16 ≤ length file.now }
-    requires st_bound { count_of file.now st ≤ «most_records» }
+    requires st_bound { count_of file.now st ≤ most_records }
     ensures { result ≡ count_of file.now st }
 {
     proposition_count(file) + st.made

@@ -1,9 +1,9 @@
 // Bound names: the nearest quantifier above each proposition, two bytes of the work room for each, and a name looked up along them.
 ghost use Rattle.std.specs.Prelude.{◌≡◌, true, ◌+◌, ◌*◌, ◌<◌, ◌≤◌, length};
-ghost use Rattle.table.specs.Tests.{«test_room»};
+ghost use Rattle.table.specs.Tests.{test_room};
 ghost use Rattle.layout.specs.File.{props};
 ghost use Rattle.table.specs.Reading.{binders, settled};
-ghost use Rattle.table.specs.Nearest.{Above, ChildrenFit, ChildrenNoted, Noted, Vacant, «param_of»};
+ghost use Rattle.table.specs.Nearest.{Above, ChildrenFit, ChildrenNoted, Noted, Vacant, param_of};
 ghost use Rattle.table.specs.Passing.{Counted, WellLinked};
 
 use layout::form::prop_shape;
@@ -57,7 +57,7 @@ fn note_children(work: &mut [u8], r: Record, n: u16)
 pub fn find_above(file: &[u8], work: &mut [u8])
     requires counted { Counted file.now }
     requires well_linked { WellLinked file.now }
-    requires test_room_in_bounds { «test_room» ≤ length work.old }
+    requires test_room_in_bounds { test_room ≤ length work.old }
     ensures { Above file.now work.new }
 {
     let p = proposition_count(file);
@@ -75,8 +75,8 @@ pub fn settle(file: &[u8], work: &[u8], n: Proposition, x: Name) -> Settled
     requires counted { Counted file.now }
     requires well_linked { WellLinked file.now }
     requires above { Above file.now work.now }
-    requires n_bound { (n.0 < props file.now) × («test_room» ≤ length work.now) }
-    ensures { «param_of» x.0 result ≡ settled x.0 0 (binders file.now n.0) }
+    requires n_bound { (n.0 < props file.now) × (test_room ≤ length work.now) }
+    ensures { param_of x.0 result ≡ settled x.0 0 (binders file.now n.0) }
 {
     let mut k: u16 = 0;
     let mut q = word(work, 2 * (n.0 as usize));

@@ -1,9 +1,9 @@
 // Tests 2 to 7 in their order, a function for each: it leans on what the tests before it gave, asks its own, and goes on to the next.
 // The room is as long as the tests want it, and what they leave there is not settled.
 ghost use Rattle.std.specs.Prelude.{◌≡◌, true, ◌≤◌, length};
-ghost use Rattle.table.specs.Links.{«expected_ok»};
+ghost use Rattle.table.specs.Links.{expected_ok};
 ghost use Rattle.table.specs.Passing.{Counted, Formed, Linked};
-ghost use Rattle.table.specs.Tests.{tests, «from_counts», «from_forms», «from_expected», «from_links», «from_sizes», «from_goal», «test_room»};
+ghost use Rattle.table.specs.Tests.{tests, from_counts, from_forms, from_expected, from_links, from_sizes, from_goal, test_room};
 
 use super::closed::open_goal;
 use super::forming::formless;
@@ -15,7 +15,7 @@ use numbers::refusal::Refusal;
 
 // Test 2.
 pub fn run_tests(file: &[u8], work: &mut [u8], purpose: Purpose) -> Verdict
-    requires { «test_room» ≤ length work.old }
+    requires { test_room ≤ length work.old }
     ensures { result ≡ tests purpose file.now }
 {
     if !well_marked(file) {
@@ -27,8 +27,8 @@ pub fn run_tests(file: &[u8], work: &mut [u8], purpose: Purpose) -> Verdict
 // Test 3.
 fn from_counts(file: &[u8], work: &mut [u8], purpose: Purpose) -> Verdict
     requires in_bounds { 16 ≤ length file.now }
-    requires test_room_in_bounds { «test_room» ≤ length work.old }
-    ensures { result ≡ «from_counts» purpose file.now }
+    requires test_room_in_bounds { test_room ≤ length work.old }
+    ensures { result ≡ from_counts purpose file.now }
 {
     if !well_counted(file) {
         return Verdict::Refused(Refusal::new(3, 0));
@@ -39,8 +39,8 @@ fn from_counts(file: &[u8], work: &mut [u8], purpose: Purpose) -> Verdict
 // Test 4.
 fn from_forms(file: &[u8], work: &mut [u8], purpose: Purpose) -> Verdict
     requires counted { Counted file.now }
-    requires test_room_in_bounds { «test_room» ≤ length work.old }
-    ensures { result ≡ «from_forms» purpose file.now }
+    requires test_room_in_bounds { test_room ≤ length work.old }
+    ensures { result ≡ from_forms purpose file.now }
 {
     match formless(file) {
         Guilty::At(i) => Verdict::Refused(Refusal::new(4, i)),
@@ -52,8 +52,8 @@ fn from_forms(file: &[u8], work: &mut [u8], purpose: Purpose) -> Verdict
 fn from_expected(file: &[u8], work: &mut [u8], purpose: Purpose) -> Verdict
     requires counted { Counted file.now }
     requires formed { Formed file.now }
-    requires test_room_in_bounds { «test_room» ≤ length work.old }
-    ensures { result ≡ «from_expected» purpose file.now }
+    requires test_room_in_bounds { test_room ≤ length work.old }
+    ensures { result ≡ from_expected purpose file.now }
 {
     if !well_aimed(file, purpose) {
         return Verdict::Refused(Refusal::new(5, 0));
@@ -65,9 +65,9 @@ fn from_expected(file: &[u8], work: &mut [u8], purpose: Purpose) -> Verdict
 fn from_links(file: &[u8], work: &mut [u8], purpose: Purpose) -> Verdict
     requires counted { Counted file.now }
     requires formed { Formed file.now }
-    requires file_value { «expected_ok» purpose file.now ≡ true }
-    requires test_room_in_bounds { «test_room» ≤ length work.old }
-    ensures { result ≡ «from_links» purpose file.now }
+    requires file_value { expected_ok purpose file.now ≡ true }
+    requires test_room_in_bounds { test_room ≤ length work.old }
+    ensures { result ≡ from_links purpose file.now }
 {
     match badly_linked(file, work, purpose) {
         Guilty::At(i) => Verdict::Refused(Refusal::new(5, i)),
@@ -80,8 +80,8 @@ fn from_sizes(file: &[u8], work: &mut [u8], purpose: Purpose) -> Verdict
     requires counted { Counted file.now }
     requires formed { Formed file.now }
     requires linked { Linked purpose file.now }
-    requires test_room_in_bounds { «test_room» ≤ length work.old }
-    ensures { result ≡ «from_sizes» purpose file.now }
+    requires test_room_in_bounds { test_room ≤ length work.old }
+    ensures { result ≡ from_sizes purpose file.now }
 {
     match oversized(file, work) {
         Guilty::At(i) => Verdict::Refused(Refusal::new(6, i)),
@@ -94,8 +94,8 @@ fn from_goal(file: &[u8], work: &mut [u8], purpose: Purpose) -> Verdict
     requires counted { Counted file.now }
     requires formed { Formed file.now }
     requires linked { Linked purpose file.now }
-    requires test_room_in_bounds { «test_room» ≤ length work.old }
-    ensures { result ≡ «from_goal» purpose file.now }
+    requires test_room_in_bounds { test_room ≤ length work.old }
+    ensures { result ≡ from_goal purpose file.now }
 {
     match open_goal(file, work, purpose) {
         Guilty::At(i) => Verdict::Refused(Refusal::new(7, i)),

@@ -1,12 +1,12 @@
 // Test 7: a check's expected proposition has no free name.
 ghost use Rattle.std.specs.Prelude.{◌≡◌, ◌||◌, not, ◌<◌, ◌≤◌, length};
-ghost use Rattle.rules.specs.Prop.{closed, «named_not»};
-ghost use Rattle.table.specs.Closed.{«closed_params»};
+ghost use Rattle.rules.specs.Prop.{closed, named_not};
+ghost use Rattle.table.specs.Closed.{closed_params};
 ghost use Rattle.layout.specs.File.{props};
 ghost use Rattle.table.specs.Nearest.{Above};
 ghost use Rattle.table.specs.Passing.{Counted, Formed, Linked, WellLinked};
 ghost use Rattle.table.specs.Reading.{binders, settled, prop_at};
-ghost use Rattle.table.specs.Tests.{«open_goal», «test_room»};
+ghost use Rattle.table.specs.Tests.{open_goal, test_room};
 
 use super::above::{Settled, find_above, settle};
 use super::{Guilty, Purpose};
@@ -21,8 +21,8 @@ fn is_bound(file: &[u8], work: &[u8], n: Proposition, used: bool, x: u16) -> boo
     requires counted { Counted file.now }
     requires well_linked { WellLinked file.now }
     requires above { Above file.now work.now }
-    requires n_bound { (n.0 < props file.now) × («test_room» ≤ length work.now) }
-    ensures { result ≡ (not used || «named_not» (settled x 0 (binders file.now n.0))) }
+    requires n_bound { (n.0 < props file.now) × (test_room ≤ length work.now) }
+    ensures { result ≡ (not used || named_not (settled x 0 (binders file.now n.0))) }
 {
     if used {
         let found = settle(file, work, n, Name(x));
@@ -40,8 +40,8 @@ fn all_bound(file: &[u8], work: &[u8], n: Proposition, r: Record) -> bool
     requires counted { Counted file.now }
     requires well_linked { WellLinked file.now }
     requires above { Above file.now work.now }
-    requires n_bound { (n.0 < props file.now) × («test_room» ≤ length work.now) }
-    ensures { result ≡ «closed_params» file.now n.0 r }
+    requires n_bound { (n.0 < props file.now) × (test_room ≤ length work.now) }
+    ensures { result ≡ closed_params file.now n.0 r }
 {
     let k = r.count;
     let first = is_bound(file, work, n, 0 < k, r.parameters[0]);
@@ -57,7 +57,7 @@ fn is_closed(file: &[u8], work: &[u8], n: Proposition) -> bool
     requires formed { Formed file.now }
     requires well_linked { WellLinked file.now }
     requires above { Above file.now work.now }
-    requires n_bound { (n.0 < props file.now) × («test_room» ≤ length work.now) }
+    requires n_bound { (n.0 < props file.now) × (test_room ≤ length work.now) }
     ensures { result ≡ closed (prop_at file.now n.0) }
 {
     let r = proposition_at(file, n);
@@ -78,8 +78,8 @@ pub fn open_goal(file: &[u8], work: &mut [u8], purpose: Purpose) -> Guilty
     requires counted { Counted file.now }
     requires formed { Formed file.now }
     requires linked { Linked purpose file.now }
-    requires test_room_in_bounds { «test_room» ≤ length work.old }
-    ensures { result ≡ «open_goal» purpose file.now }
+    requires test_room_in_bounds { test_room ≤ length work.old }
+    ensures { result ≡ open_goal purpose file.now }
 {
     match purpose {
         Purpose::Filling => Guilty::Nobody,

@@ -1,10 +1,10 @@
 // Test 4: known kinds, tags and parameter counts, and zeros in every field that the kind does not use.
 ghost use Rattle.std.specs.Prelude.{◌≡◌, not, ◌≤◌, length};
-ghost use Rattle.numbers.specs.Limits.{«most_propositions», «most_terms»};
-ghost use Rattle.layout.specs.File.{props, prop_record, term_record, «file_size»};
-ghost use Rattle.layout.specs.Form.{fits, «prop_form», «term_form»};
+ghost use Rattle.numbers.specs.Limits.{most_propositions, most_terms};
+ghost use Rattle.layout.specs.File.{props, prop_record, term_record, file_size};
+ghost use Rattle.layout.specs.Form.{fits, prop_form, term_form};
 ghost use Rattle.table.specs.Reading.{first};
-ghost use Rattle.table.specs.Tests.{AtMost, «or_term», formless};
+ghost use Rattle.table.specs.Tests.{AtMost, or_term, formless};
 ghost use Rattle.table.specs.Passing.{Counted};
 
 use super::Guilty;
@@ -22,7 +22,7 @@ fn fits(used: bool, x: u16) -> bool
 }
 
 fn prop_form(r: Record) -> bool
-    ensures { result ≡ «prop_form» r }
+    ensures { result ≡ prop_form r }
 {
     let s = prop_shape(r.kind);
     let n = r.count;
@@ -34,7 +34,7 @@ fn prop_form(r: Record) -> bool
 }
 
 fn term_form(r: TermRecord) -> bool
-    ensures { result ≡ «term_form» r }
+    ensures { result ≡ term_form r }
 {
     let s = term_shape(r.kind);
     let n = r.tag;
@@ -46,8 +46,8 @@ fn term_form(r: TermRecord) -> bool
 }
 
 fn formless_proposition(file: &[u8], p: u16) -> Guilty
-    requires { «file_size» p 0 ≤ length file.now }
-    ensures { result ≡ first (λ n. not («prop_form» (prop_record file.now n))) p }
+    requires { file_size p 0 ≤ length file.now }
+    ensures { result ≡ first (λ n. not (prop_form (prop_record file.now n))) p }
 {
     let mut n: u16 = 0;
     while n < p {
@@ -61,8 +61,8 @@ fn formless_proposition(file: &[u8], p: u16) -> Guilty
 }
 
 fn formless_term(file: &[u8], p: u16, count: u16) -> Guilty
-    requires { (p ≡ props file.now) × («file_size» p count ≤ length file.now) }
-    ensures { result ≡ first (λ t. not («term_form» (term_record file.now t))) count }
+    requires { (p ≡ props file.now) × (file_size p count ≤ length file.now) }
+    ensures { result ≡ first (λ t. not (term_form (term_record file.now t))) count }
 {
     let mut t: u16 = 0;
     while t < count {
@@ -77,9 +77,9 @@ fn formless_term(file: &[u8], p: u16, count: u16) -> Guilty
 
 // The lowest guilty record: a proposition, or else a term, whose place counts the p propositions before it.
 pub fn or_term(g: Guilty, p: u16, h: Guilty) -> Guilty
-    requires p_le_most_propositions { p ≤ «most_propositions» }
-    requires at_most { AtMost «most_terms» h }
-    ensures { result ≡ «or_term» g p h }
+    requires p_le_most_propositions { p ≤ most_propositions }
+    requires at_most { AtMost most_terms h }
+    ensures { result ≡ or_term g p h }
 {
     match g {
         Guilty::At(n) => Guilty::At(n),

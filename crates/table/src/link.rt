@@ -1,10 +1,10 @@
 // Test 5: links in range and the right way, every record but the root term named exactly once.
 ghost use Rattle.std.specs.Prelude.{◌≡◌, ◌&&◌, ◌||◌, not, ◌+◌, ◌≤◌, length, get_or, eqb, ltb};
-ghost use Rattle.layout.specs.File.{props, terms, «file_size»};
-ghost use Rattle.table.specs.Links.{«all_links», annotation, «prop_links», «term_links», «prop_links_ok», «term_links_ok»};
+ghost use Rattle.layout.specs.File.{props, terms, file_size};
+ghost use Rattle.table.specs.Links.{all_links, annotation, prop_links, term_links, prop_links_ok, term_links_ok};
 ghost use Rattle.table.specs.Passing.{Counted};
 ghost use Rattle.table.specs.Reading.{first};
-ghost use Rattle.table.specs.Tests.{«badly_linked», «test_room»};
+ghost use Rattle.table.specs.Tests.{badly_linked, test_room};
 
 use super::forming::or_term;
 use super::naming::count_names;
@@ -17,7 +17,7 @@ use numbers::{Proposition, Term};
 
 // Children have smaller numbers.
 fn prop_links_ok(r: Record, n: u16) -> bool
-    ensures { result ≡ «all_links» (λ m. ltb m n) («prop_links» r) }
+    ensures { result ≡ all_links (λ m. ltb m n) (prop_links r) }
 {
     let s = prop_shape(r.kind);
     let k = s.children;
@@ -37,13 +37,13 @@ fn child_ok(used: bool, t: u16, count: u16, m: u16) -> bool
 
 // A type that is a proposition is one of the table's.
 fn annotation_ok(r: TermRecord, p: u16) -> bool
-    ensures { result ≡ «all_links» (λ m. ltb m p) (annotation r) }
+    ensures { result ≡ all_links (λ m. ltb m p) (annotation r) }
 {
     (r.tag != 1) | (r.typ < p)
 }
 
 fn term_links_ok(r: TermRecord, t: u16, p: u16, count: u16) -> bool
-    ensures { result ≡ («all_links» (λ m. ltb t m && ltb m count) («term_links» r) && «all_links» (λ m. ltb m p) (annotation r)) }
+    ensures { result ≡ (all_links (λ m. ltb t m && ltb m count) (term_links r) && all_links (λ m. ltb m p) (annotation r)) }
 {
     let s = term_shape(r.kind);
     let k = s.children;
@@ -54,8 +54,8 @@ fn term_links_ok(r: TermRecord, t: u16, p: u16, count: u16) -> bool
 
 // The work room shows how often each record is named.
 fn badly_linked_proposition(file: &[u8], work: &[u8], p: u16) -> Guilty
-    requires { («file_size» p 0 ≤ length file.now) × (p ≤ length work.now) }
-    ensures { result ≡ first (λ n. not («prop_links_ok» file.now n && eqb (get_or work.now n 0) 1)) p }
+    requires { (file_size p 0 ≤ length file.now) × (p ≤ length work.now) }
+    ensures { result ≡ first (λ n. not (prop_links_ok file.now n && eqb (get_or work.now n 0) 1)) p }
 {
     let mut n: u16 = 0;
     while n < p {
@@ -71,8 +71,8 @@ fn badly_linked_proposition(file: &[u8], work: &[u8], p: u16) -> Guilty
 
 fn badly_linked_term(file: &[u8], work: &[u8], p: u16, count: u16) -> Guilty
     requires { (p ≡ props file.now) × (count ≡ terms file.now)
-        × («file_size» p count ≤ length file.now) × (p + count ≤ length work.now) }
-    ensures { result ≡ first (λ t. not («term_links_ok» file.now t && (eqb t 0 || eqb (get_or work.now (p + t) 0) 1))) count }
+        × (file_size p count ≤ length file.now) × (p + count ≤ length work.now) }
+    ensures { result ≡ first (λ t. not (term_links_ok file.now t && (eqb t 0 || eqb (get_or work.now (p + t) 0) 1))) count }
 {
     let base = p as usize;
     let mut t: u16 = 0;
@@ -89,8 +89,8 @@ fn badly_linked_term(file: &[u8], work: &[u8], p: u16, count: u16) -> Guilty
 
 pub fn badly_linked(file: &[u8], work: &mut [u8], purpose: Purpose) -> Guilty
     requires counted { Counted file.now }
-    requires test_room_in_bounds { «test_room» ≤ length work.old }
-    ensures { result ≡ «badly_linked» purpose file.now }
+    requires test_room_in_bounds { test_room ≤ length work.old }
+    ensures { result ≡ badly_linked purpose file.now }
 {
     let p = proposition_count(file);
     let count = term_count(file);

@@ -1,11 +1,11 @@
 // Test 5's counts: how often each record is named, in one pass over the table. Byte n of the work room is proposition n's, byte
 // p + t term t's.
 ghost use Rattle.std.specs.Prelude.{◌≡◌, ◌+◌, ◌<◌, ◌≤◌, min, length, get_or, set};
-ghost use Rattle.numbers.specs.Limits.{«most_propositions»};
-ghost use Rattle.table.specs.Tests.{«test_room»};
-ghost use Rattle.layout.specs.File.{props, terms, prop_record, term_record, «file_size»};
-ghost use Rattle.table.specs.Links.{heads, hits, sum, annotation, «prop_links», «term_links»};
-ghost use Rattle.table.specs.Naming.{Names, «used_hits», NamesShown};
+ghost use Rattle.numbers.specs.Limits.{most_propositions};
+ghost use Rattle.table.specs.Tests.{test_room};
+ghost use Rattle.layout.specs.File.{props, terms, prop_record, term_record, file_size};
+ghost use Rattle.table.specs.Links.{heads, hits, sum, annotation, prop_links, term_links};
+ghost use Rattle.table.specs.Naming.{Names, used_hits, NamesShown};
 ghost use Rattle.table.specs.Passing.{Counted};
 
 use super::Purpose;
@@ -30,8 +30,8 @@ fn note(work: &mut [u8], i: usize)
 
 // A link, if it is used, names the record of its number, if there are so many.
 fn name(work: &mut [u8], used: bool, base: usize, bound: u16, m: u16)
-    requires { (base + bound ≤ length work.old) × (base ≤ «most_propositions») }
-    ensures { Names base bound («used_hits» used m) work.old work.new }
+    requires { (base + bound ≤ length work.old) × (base ≤ most_propositions) }
+    ensures { Names base bound (used_hits used m) work.old work.new }
 {
     if used {
         if m < bound {
@@ -42,7 +42,7 @@ fn name(work: &mut [u8], used: bool, base: usize, bound: u16, m: u16)
 
 fn name_children(work: &mut [u8], p: u16, r: Record)
     requires { p ≤ length work.old }
-    ensures { Names 0 p (λ j. hits j («prop_links» r)) work.old work.new }
+    ensures { Names 0 p (λ j. hits j (prop_links r)) work.old work.new }
 {
     let s = prop_shape(r.kind);
     name(work, s.children == 1, 0, p, r.c);
@@ -51,8 +51,8 @@ fn name_children(work: &mut [u8], p: u16, r: Record)
 }
 
 fn name_subterms(work: &mut [u8], p: u16, count: u16, r: TermRecord)
-    requires { (p + count ≤ length work.old) × (p ≤ «most_propositions») }
-    ensures { Names p count (λ j. hits j («term_links» r)) work.old work.new }
+    requires { (p + count ≤ length work.old) × (p ≤ most_propositions) }
+    ensures { Names p count (λ j. hits j (term_links r)) work.old work.new }
 {
     let s = term_shape(r.kind);
     let base = p as usize;
@@ -62,8 +62,8 @@ fn name_subterms(work: &mut [u8], p: u16, count: u16, r: TermRecord)
 }
 
 fn by_propositions(file: &[u8], work: &mut [u8], p: u16)
-    requires { («file_size» p 0 ≤ length file.now) × (p ≤ length work.old) }
-    ensures { Names 0 p (λ j. sum (λ m. hits j («prop_links» (prop_record file.now m))) p)
+    requires { (file_size p 0 ≤ length file.now) × (p ≤ length work.old) }
+    ensures { Names 0 p (λ j. sum (λ m. hits j (prop_links (prop_record file.now m))) p)
         work.old work.new }
 {
     let mut n: u16 = 0;
@@ -75,7 +75,7 @@ fn by_propositions(file: &[u8], work: &mut [u8], p: u16)
 }
 
 fn by_annotations(file: &[u8], work: &mut [u8], p: u16, count: u16)
-    requires { (p ≡ props file.now) × («file_size» p count ≤ length file.now) × (p ≤ length work.old) }
+    requires { (p ≡ props file.now) × (file_size p count ≤ length file.now) × (p ≤ length work.old) }
     ensures { Names 0 p (λ j. sum (λ t. hits j (annotation (term_record file.now t))) count)
         work.old work.new }
 {
@@ -88,9 +88,9 @@ fn by_annotations(file: &[u8], work: &mut [u8], p: u16, count: u16)
 }
 
 fn by_terms(file: &[u8], work: &mut [u8], p: u16, count: u16)
-    requires { (p ≡ props file.now) × («file_size» p count ≤ length file.now)
-        × (p + count ≤ length work.old) × (p ≤ «most_propositions») }
-    ensures { Names p count (λ j. sum (λ t. hits j («term_links» (term_record file.now t))) count)
+    requires { (p ≡ props file.now) × (file_size p count ≤ length file.now)
+        × (p + count ≤ length work.old) × (p ≤ most_propositions) }
+    ensures { Names p count (λ j. sum (λ t. hits j (term_links (term_record file.now t))) count)
         work.old work.new }
 {
     let mut t: u16 = 0;
@@ -116,7 +116,7 @@ fn by_header(file: &[u8], work: &mut [u8], p: u16, purpose: Purpose)
 // Every count, in a room of any contents.
 pub fn count_names(file: &[u8], work: &mut [u8], purpose: Purpose)
     requires counted { Counted file.now }
-    requires test_room_in_bounds { «test_room» ≤ length work.old }
+    requires test_room_in_bounds { test_room ≤ length work.old }
     ensures { NamesShown purpose file.now work.new }
 {
     let p = proposition_count(file);

@@ -1,6 +1,6 @@
 // What the header says: tests 2 and 3, and the expected field's part of test 5.
 ghost use Rattle.std.specs.Prelude.{◌≡◌, ◌≤◌, length};
-ghost use Rattle.table.specs.Links.{«expected_ok»};
+ghost use Rattle.table.specs.Links.{expected_ok};
 ghost use Rattle.table.specs.Tests.{mark, blank, header, counts};
 
 use super::Purpose;
@@ -45,7 +45,7 @@ pub fn well_counted(file: &[u8]) -> bool
 // Test 5's expected field: a check has one, a filling has none.
 pub fn well_aimed(file: &[u8], purpose: Purpose) -> bool
     requires { 16 ≤ length file.now }
-    ensures { result ≡ «expected_ok» purpose file.now }
+    ensures { result ≡ expected_ok purpose file.now }
 {
     let e = expected_field(file);
     match purpose {

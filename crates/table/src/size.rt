@@ -1,13 +1,13 @@
 // Test 6: heights of propositions from the smallest number up, depths of terms from the root down, a byte of the work room each.
 ghost use Rattle.std.specs.Prelude.{◌≡◌, ◌≤◌, length};
-ghost use Rattle.layout.specs.File.{props, terms, «file_size»};
-ghost use Rattle.table.specs.Links.{hits, «term_links»};
-ghost use Rattle.table.specs.Naming.{«used_hits»};
+ghost use Rattle.layout.specs.File.{props, terms, file_size};
+ghost use Rattle.table.specs.Links.{hits, term_links};
+ghost use Rattle.table.specs.Naming.{used_hits};
 ghost use Rattle.table.specs.Passing.{Counted, WellLinked};
 ghost use Rattle.table.specs.Reading.{first};
-ghost use Rattle.table.specs.Size.{«too_high», «too_deep»};
+ghost use Rattle.table.specs.Size.{too_high, too_deep};
 ghost use Rattle.table.specs.Sizing.{height_of, ChildrenHigh, Within, Deepened};
-ghost use Rattle.table.specs.Tests.{oversized, «test_room»};
+ghost use Rattle.table.specs.Tests.{oversized, test_room};
 
 use super::Guilty;
 use super::forming::or_term;
@@ -41,9 +41,9 @@ fn height_of(work: &[u8], r: Record) -> u8
 }
 
 fn too_high(file: &[u8], work: &mut [u8], p: u16) -> Guilty
-    requires p_value { (p ≡ props file.now) × («file_size» p 0 ≤ length file.now) × (p ≤ length work.old) }
+    requires p_value { (p ≡ props file.now) × (file_size p 0 ≤ length file.now) × (p ≤ length work.old) }
     requires well_linked { WellLinked file.now }
-    ensures { result ≡ first («too_high» file.now) p }
+    ensures { result ≡ first (too_high file.now) p }
 {
     let mut n: u16 = 0;
     while n < p {
@@ -61,8 +61,8 @@ fn too_high(file: &[u8], work: &mut [u8], p: u16) -> Guilty
 
 // The child, if it is used, stands at depth d.
 fn set_depth(work: &mut [u8], used: bool, child: u16, d: u8)
-    requires { Within («used_hits» used child) work.old }
-    ensures { Deepened («used_hits» used child) d work.old work.new }
+    requires { Within (used_hits used child) work.old }
+    ensures { Deepened (used_hits used child) d work.old work.new }
 {
     if used {
         let i = child as usize;
@@ -72,8 +72,8 @@ fn set_depth(work: &mut [u8], used: bool, child: u16, d: u8)
 
 // The children of term r stand at depth d.
 fn set_depths(work: &mut [u8], r: TermRecord, d: u8)
-    requires { Within (λ t. hits t («term_links» r)) work.old }
-    ensures { Deepened (λ t. hits t («term_links» r)) d work.old work.new }
+    requires { Within (λ t. hits t (term_links r)) work.old }
+    ensures { Deepened (λ t. hits t (term_links r)) d work.old work.new }
 {
     let s = term_shape(r.kind);
     let k = s.children;
@@ -84,9 +84,9 @@ fn set_depths(work: &mut [u8], r: TermRecord, d: u8)
 
 fn too_deep(file: &[u8], work: &mut [u8], p: u16, count: u16) -> Guilty
     requires p_value { (p ≡ props file.now) × (count ≡ terms file.now) }
-    requires count_in_bounds { («file_size» p count ≤ length file.now) × (count ≤ length work.old) × (1 ≤ count) }
+    requires count_in_bounds { (file_size p count ≤ length file.now) × (count ≤ length work.old) × (1 ≤ count) }
     requires well_linked { WellLinked file.now }
-    ensures { result ≡ first («too_deep» file.now) count }
+    ensures { result ≡ first (too_deep file.now) count }
 {
     work[0] = 1;
     let mut t: u16 = 0;
@@ -106,7 +106,7 @@ fn too_deep(file: &[u8], work: &mut [u8], p: u16, count: u16) -> Guilty
 pub fn oversized(file: &[u8], work: &mut [u8]) -> Guilty
     requires counted { Counted file.now }
     requires well_linked { WellLinked file.now }
-    requires test_room_in_bounds { «test_room» ≤ length work.old }
+    requires test_room_in_bounds { test_room ≤ length work.old }
     ensures { result ≡ oversized file.now }
 {
     let p = proposition_count(file);

@@ -7,10 +7,6 @@ use Rattle.table.proofs.Verdicts.{tested_short, tested_long}
 use borrow.Author.Rules.{rules}
 use Rattle.table.proofs.test_table.Goals as goal
 
--- the part of the room that is lent to the tests is as long as they want it
-long_enough : (c : tie.Else1) → length (take test_room c.args.work.now) ≡ test_room
-long_enough c = length-take-le test_room c.args.work.now c.if-work-lt-ROOM.false
-
 pub returns-then-work-lt-ROOM : goal.returns-then-work-lt-ROOM
 returns-then-work-lt-ROOM c =
     let cleared = c in
@@ -19,10 +15,10 @@ returns-then-work-lt-ROOM c =
     tested_short a.purpose a.file.now a.work.now _ _ short.if-work-lt-ROOM.true cleared.clear.ensures c.new.ensures
 
 pub slice_bounds-run_tests-end-2 : goal.slice_bounds-run_tests-end-2
-slice_bounds-run_tests-end-2 c = sym (long_enough c)
+slice_bounds-run_tests-end-2 c = sym (length-take-le test_room c.args.work.now c.if-work-lt-ROOM.false)
 
 pub run_tests-answer-requires : goal.run_tests-answer-requires
-run_tests-answer-requires c = omega (arith, long_enough c)
+run_tests-answer-requires c = omega (arith, length-take-le test_room c.args.work.now c.if-work-lt-ROOM.false)
 
 pub returns : goal.returns
 returns c =
@@ -31,5 +27,5 @@ returns c =
     let long = ran in
     let a = long.args in
     let r = ran.run_tests-answer in
-    tested_long a.purpose a.file.now a.work.now r.new.1.0 _ r.result long.if-work-lt-ROOM.false r.ensures (r.auto.1.0 ∙ long_enough long)
+    tested_long a.purpose a.file.now a.work.now r.new.work _ r.result long.if-work-lt-ROOM.false r.ensures (r.auto.work ∙ length-take-le test_room c.args.work.now c.if-work-lt-ROOM.false)
     cleared.clear-2.ensures

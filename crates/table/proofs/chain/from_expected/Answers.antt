@@ -7,8 +7,8 @@ pub returns-then-not-well_aimed : goal.returns-then-not-well_aimed
 unfolding from_expected
 returns-then-not-well_aimed c = search fails
 
-pub from_links-requires : goal.from_links-requires
-from_links-requires c = (search rules, (search rules, (search holds, search rules)))
+pub from_links-requires-clause-file_value : goal.from_links-requires-clause-file_value
+from_links-requires-clause-file_value c = search holds
 
 pub returns : goal.returns
 unfolding from_expected

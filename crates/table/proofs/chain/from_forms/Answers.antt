@@ -4,8 +4,8 @@ use Rattle.table.proofs.Passing.{formed}
 use Rattle.table.proofs.Verdicts.{clears, accuses, goes_past}
 use Rattle.table.proofs.chain.from_forms.Goals as goal
 
-pub from_expected-requires : goal.from_expected-requires
-from_expected-requires c = (search rules, (formed _ (search clears), search rules))
+pub from_expected-requires-clause-formed : goal.from_expected-requires-clause-formed
+from_expected-requires-clause-formed c = formed _ (search clears)
 
 pub returns-in-At : goal.returns-in-At
 unfolding from_forms

@@ -4,8 +4,8 @@ use Rattle.table.proofs.Passing.{linked}
 use Rattle.table.proofs.Verdicts.{clears, accuses, goes_past}
 use Rattle.table.proofs.chain.from_links.Goals as goal
 
-pub from_sizes-requires : goal.from_sizes-requires
-from_sizes-requires c = (search rules, (search rules, (linked _ _ (search rules) (search clears), search rules)))
+pub from_sizes-requires-clause-linked : goal.from_sizes-requires-clause-linked
+from_sizes-requires-clause-linked c = linked _ _ (search rules) (search clears)
 
 pub returns-in-At : goal.returns-in-At
 unfolding from_links

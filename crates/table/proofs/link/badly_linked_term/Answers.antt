@@ -14,11 +14,6 @@ use Rattle.table.proofs.link.badly_linked_term.Goals as goal
 abbrev guilty : List ℕ → List ℕ → ℕ → ℕ → Bool
 guilty l w p t = not (term_links_ok l t && (eqb t 0 || eqb (get_or w (p + t) 0) 1))
 
-known : (c : tie.After-term-links-ok invariant-loop decreases-loop) → c.term_links_ok.result ≡ term_links_ok c.args.file.now c.loop-t.t
-known c =
-    let s = c in
-    c.term_links_ok.ensures ∙ term_ok s.args.file.now c.loop-t.t s.args.p s.args.count c.term_at-r.result c.term_at-r.ensures s.requires.0 s.requires.1
-
 pub loop-t-init : goal.loop-t-init
 loop-t-init c = (search rules, first_start _ _)
 
@@ -27,7 +22,7 @@ returns-then-not-term_links_ok-t c =
     let h = c in
     let a = h.args in
     let e : guilty a.file.now a.work.now a.p h.loop-t.t ≡ true =
-    ap (λ (ok : Bool). not (ok && (eqb h.loop-t.t 0 || eqb (get_or a.work.now (a.p + h.loop-t.t) 0) 1))) (sym (known c)) ∙ c.if-not-term_links_ok-t.true in
+    ap (λ (ok : Bool). not (ok && (eqb h.loop-t.t 0 || eqb (get_or a.work.now (a.p + h.loop-t.t) 0) 1))) (sym (c.term_links_ok.ensures ∙ term_ok c.args.file.now c.loop-t.t c.args.p c.args.count c.term_at-r.result c.term_at-r.ensures c.requires.0 c.requires.1)) ∙ ap not c.if-not-term_links_ok-t.true in
     sym (h.loop-t.invariant.1 ∙ first_here (guilty a.file.now a.work.now a.p) h.loop-t.t a.count (search rules) e)
 
 pub loop-t-preserved : goal.loop-t-preserved
@@ -35,7 +30,7 @@ loop-t-preserved c =
     let h = c in
     let a = h.args in
     let e : guilty a.file.now a.work.now a.p h.loop-t.t ≡ false =
-    ap (λ (ok : Bool). not (ok && (eqb h.loop-t.t 0 || eqb (get_or a.work.now (a.p + h.loop-t.t) 0) 1))) (sym (known c)) ∙ c.if-not-term_links_ok-t.false in
+    ap (λ (ok : Bool). not (ok && (eqb h.loop-t.t 0 || eqb (get_or a.work.now (a.p + h.loop-t.t) 0) 1))) (sym (c.term_links_ok.ensures ∙ term_ok c.args.file.now c.loop-t.t c.args.p c.args.count c.term_at-r.result c.term_at-r.ensures c.requires.0 c.requires.1)) ∙ ap not c.if-not-term_links_ok-t.false in
     (search rules, h.loop-t.invariant.1 ∙ first_past (guilty a.file.now a.work.now a.p) h.loop-t.t a.count (search rules) e)
 
 pub returns : goal.returns

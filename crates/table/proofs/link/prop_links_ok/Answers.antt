@@ -1,3 +1,4 @@
+use native.Mathlib.Omega.{arith}
 use mathlib.Core.Path.{ap, sym, subst, ◌∙◌}
 use Prim.Native.Nat.{◌≤◌}
 use lib.Dec.{ltb}
@@ -17,4 +18,4 @@ pub returns-in-2-to-255 : goal.returns-in-2-to-255
 returns-in-2-to-255 c =
     let a = c.args in
     let s = c.prop_shape-s in
-    two_children (λ m. ltb m a.n) _ a.r (subst (λ (s : PropShape). 2 ≤ s.children) s.ensures (past _ 2 c.in-2-to-255.in-2-to-255-own.rest))
+    two_children (λ m. ltb m a.n) _ a.r (subst (λ (s : PropShape). 2 ≤ s.children) s.ensures (omega arith))

@@ -18,4 +18,4 @@ pub returns-in-Filling : goal.returns-in-Filling
 unfolding hits
 returns-in-Filling c =
     let a = c.args in
-    subst⁻¹ (λ (q : Purpose). Names 0 a.p (λ j. hits j (heads q a.file.now)) a.work.now c.name-in-Filling.new.work) c.enum-told2.is (names_same c.name-in-Filling.ensures (λ j. refl))
+    subst⁻¹ (λ (q : Purpose). Names 0 a.p (λ j. hits j (heads q a.file.now)) a.work.now c.name-in-Filling.new.work) c.in-Filling.is (names_same c.name-in-Filling.ensures (λ j. refl))

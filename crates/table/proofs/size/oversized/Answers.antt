@@ -5,9 +5,6 @@ use Rattle.table.proofs.Headers.{first_most}
 use borrow.Author.Rules.{rules}
 use Rattle.table.proofs.size.oversized.Goals as goal
 
-pub too_deep-h-requires : goal.too_deep-h-requires
-too_deep-h-requires c = (search rules, (search rules, search rules))
-
 pub or_term-requires-clause-at_most : goal.or_term-requires-clause-at_most
 or_term-requires-clause-at_most c = first_most _ _ most_terms _ c.too_deep-h.ensures (omega arith)
 

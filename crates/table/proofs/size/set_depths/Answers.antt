@@ -14,7 +14,7 @@ set_depth-requires-2 c =
     let s = c in
     let a = s.args in
     let one = c.set_depth in
-    (children_within a.r s.term_shape-s.result s.term_shape-s.ensures a.work.now one.new.0 s.requires one.ensures.size).1
+    (children_within a.r s.term_shape-s.result s.term_shape-s.ensures a.work.now one.new.work s.requires one.ensures.size).1
 
 pub set_depth-requires-3 : goal.set_depth-requires-3
 set_depth-requires-3 c =
@@ -22,7 +22,7 @@ set_depth-requires-3 c =
     let a = s.args in
     let one = c.set_depth in
     let two = c.set_depth-2 in
-    (children_within a.r s.term_shape-s.result s.term_shape-s.ensures a.work.now two.new.0 s.requires (two.ensures.size ∙ one.ensures.size)).2
+    (children_within a.r s.term_shape-s.result s.term_shape-s.ensures a.work.now two.new.work s.requires (two.ensures.size ∙ one.ensures.size)).2
 
 pub returns : goal.returns
 returns c =
@@ -30,4 +30,4 @@ returns c =
     let one = c.set_depth in
     let two = c.set_depth-2 in
     let three = c.set_depth-3 in
-    children_deepened s.args.r s.term_shape-s.result s.term_shape-s.ensures s.args.d _ one.new.0 two.new.0 _ one.ensures two.ensures three.ensures
+    children_deepened s.args.r s.term_shape-s.result s.term_shape-s.ensures s.args.d _ one.new.work two.new.work _ one.ensures two.ensures three.ensures

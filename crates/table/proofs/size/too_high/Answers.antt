@@ -10,18 +10,6 @@ use Rattle.table.proofs.Firsts.{first_start, first_here, first_past, first_none}
 use Rattle.table.proofs.Heights.{Heights, children_high, height_found, heights_next, is_high, not_high}
 use Rattle.table.proofs.size.too_high.Goals as goal
 
--- the record is one of the table's
-within : (c : tie.In-loop invariant-loop decreases-loop) → c.loop-n.n < props c.args.file.now
-within c = omega (arith, c.requires.p_value.0)
-
--- what the code computes is its height
-known : (c : tie.After-height-of invariant-loop decreases-loop)
-    → c.height_of-h.result ≡ height (prop_at c.args.file.now c.loop-n.n)
-known c =
-    let h = c in
-    let s = h in
-    height_found s.args.file.now h.loop-n.work h.loop-n.n _ c.proposition_at-r.ensures (within c) s.requires.well_linked h.loop-n.invariant.3 _ c.height_of-h.ensures
-
 pub loop-n-init : goal.loop-n-init
 loop-n-init c = (search rules, first_start _ _, search rules, λ j b. absurd (omega arith))
 
@@ -29,7 +17,7 @@ pub height_of-h-requires : goal.height_of-h-requires
 height_of-h-requires c =
     let h = c in
     let s = h in
-    children_high s.args.file.now h.loop-n.work h.loop-n.n _ c.proposition_at-r.ensures (within c) s.requires.well_linked h.loop-n.invariant.3 (omega (arith, h.loop-n.invariant, s.requires.p_value))
+    children_high s.args.file.now h.loop-n.work h.loop-n.n _ c.proposition_at-r.ensures (omega (arith, c.requires.p_value.0)) s.requires.well_linked h.loop-n.invariant.3 (omega (arith, h.loop-n.invariant, s.requires.p_value))
 
 pub shape_of-work-then-h-gt-HEIGHT : goal.shape_of-work-then-h-gt-HEIGHT
 shape_of-work-then-h-gt-HEIGHT c = c.loop-n.invariant.2
@@ -38,7 +26,7 @@ pub returns-then-h-gt-HEIGHT : goal.returns-then-h-gt-HEIGHT
 returns-then-h-gt-HEIGHT c =
     let h = c in
     let a = h.args in
-    sym (h.loop-n.invariant.1 ∙ first_here (too_high a.file.now) h.loop-n.n a.p (search rules) (is_high a.file.now h.loop-n.n _ (known c) c.if-h-gt-HEIGHT.true))
+    sym (h.loop-n.invariant.1 ∙ first_here (too_high a.file.now) h.loop-n.n a.p (search rules) (is_high a.file.now h.loop-n.n _ (height_found c.args.file.now c.loop-n.work c.loop-n.n _ c.proposition_at-r.ensures (omega (arith, c.requires.p_value.0)) c.requires.well_linked c.loop-n.invariant.3 _ c.height_of-h.ensures) c.if-h-gt-HEIGHT.true))
 
 pub loop-n-preserved : goal.loop-n-preserved
 loop-n-preserved c =
@@ -46,9 +34,9 @@ loop-n-preserved c =
     let s = h in
     let a = s.args in (
       search rules,
-      h.loop-n.invariant.1 ∙ first_past (too_high a.file.now) h.loop-n.n a.p (search rules) (not_high a.file.now h.loop-n.n _ (known c) c.if-h-gt-HEIGHT.false),
+      h.loop-n.invariant.1 ∙ first_past (too_high a.file.now) h.loop-n.n a.p (search rules) (not_high a.file.now h.loop-n.n _ (height_found c.args.file.now c.loop-n.work c.loop-n.n _ c.proposition_at-r.ensures (omega (arith, c.requires.p_value.0)) c.requires.well_linked c.loop-n.invariant.3 _ c.height_of-h.ensures) c.if-h-gt-HEIGHT.false),
       length-set h.loop-n.work h.loop-n.n _ ∙ h.loop-n.invariant.2,
-      heights_next a.file.now h.loop-n.work h.loop-n.n _ c.proposition_at-r.ensures (within c) s.requires.well_linked h.loop-n.invariant.3 _ c.height_of-h.ensures c.if-h-gt-HEIGHT.false (search rules),
+      heights_next a.file.now h.loop-n.work h.loop-n.n _ c.proposition_at-r.ensures (omega (arith, c.requires.p_value.0)) s.requires.well_linked h.loop-n.invariant.3 _ c.height_of-h.ensures c.if-h-gt-HEIGHT.false (search rules),
     )
 
 pub shape_of-work : goal.shape_of-work

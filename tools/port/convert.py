@@ -7,6 +7,7 @@ The needs of an old proof and the goals of today stand in one order, so the n-th
 `.before`s, and a step gets today's name. An answer that is only a search is left out: the check searches by itself. What it cannot turn it says.
 """
 
+import difflib
 import json
 import os
 import re
@@ -210,7 +211,13 @@ def main():
         holds = args[:count]
         needs = args[count:]
         if len(needs) != len(entry["needs"]):
-            said.append(f"{len(needs)} answers, {len(entry['needs'])} goals")
+            same = difflib.SequenceMatcher(None, [norm(n) for n in needs], [norm(n[0]) for n in entry["needs"]], autojunk=False)
+            kept = [k for m in same.get_matching_blocks() for k in range(m.a, m.a + m.size)]
+            said.append(f"{len(needs)} answers, {len(entry['needs'])} goals; gone: " + " ".join(n for k, n in enumerate(needs) if k not in kept))
+            if len(kept) == len(entry["needs"]):
+                gone = [n for k, n in enumerate(needs) if k not in kept]
+                needs = [needs[k] for k in kept]
+                decls = [b for b in decls if not any(re.match(rf"{re.escape(g)} :", l) for g in gone for l in b)]
         goal_of = dict(zip(needs, [n[1] for n in entry["needs"]]))
         old_of = dict(zip(needs, [n[0] for n in entry["needs"]]))
         place_of = dict(zip(needs, [a[0] for a in entry["asked_at"]]))

@@ -140,13 +140,28 @@ def commas(text):
     return parts + [text[last:].strip()] * bool(text[last:].strip())
 
 
+def taken_apart(goal, text, fields):
+    """A lemma's tuple, field by field."""
+    depth, at = 0, None
+    for m in re.finditer(r"[({\[]|[)}\]]|(?<= )in(?=\s)|(?<= )=(?=\s)", text):
+        depth += (m[0] in "({[") - (m[0] in ")}]")
+        if depth == 0 and (m[0] == "in" or m[0] == "=" and at is None):
+            at = m.end()
+    last = text[at:].strip()
+    if "search" == last[:6]:
+        return f"{goal}: a search for {fields}"
+    places = [".1" * k + (".0" if k + 1 < len(fields) else "") for k in range(len(fields))]
+    rec = "record { " + "; ".join(f"{f} = all{p}" for f, p in zip(fields, places)) + " }"
+    return [(goal, text[:at] + f"\n    let all = {last} in\n    {rec}")]
+
+
 def split(goal, whole, fields):
     """A tuple for a `requires` of several clauses, as an answer for each clause; what a search finds is left to the check."""
     if not fields:
         return None
     text = whole.rstrip()
     if not text.endswith(")"):
-        return f"{goal}: no tuple for {fields}"
+        return taken_apart(goal, text, fields)
     depth, at = 0, None
     for i in range(len(text) - 1, -1, -1):
         depth += (text[i] in ")}") - (text[i] in "({")
@@ -155,7 +170,7 @@ def split(goal, whole, fields):
             break
     head, tuple_ = text[:at], text[at + 1 : -1]
     if not re.search(r"(?:=|\bin)\s*$", head):
-        return f"{goal}: no tuple for {fields}"
+        return taken_apart(goal, text, fields)
     parts = commas(tuple_)
     while len(parts) < len(fields) and parts[-1].startswith("("):
         more = commas(parts[-1][1:-1])

@@ -1,3 +1,4 @@
+use borrow.Author.Rules.{rules}
 use Rattle.checker.proofs.Turns.{rank_below, go_first, go_ended, go_refused, go_instead, go_there, go_child, go_stop, go_resume, go_again, go_less}
 use native.Mathlib.Omega.{arith}
 use mathlib.Core.Path.{subst}
@@ -5,7 +6,7 @@ use Rattle.step.specs.Modes.{WantIn}
 use Rattle.checker.proofs.+check_perform_run_synthesize.Goals as goal
 
 pub check-perform-requires : goal.check-perform-requires
-check-perform-requires t c = (rank_below _ _ 1 0 _ c.decreases (omega arith), (c.requires.ready, c.requires.type_in))
+check-perform-requires t c = (rank_below _ _ 1 0 _ c.decreases (omega arith), (c.requires.ready, search rules))
 
 pub perform-loop-next-init : goal.perform-loop-next-init
 perform-loop-next-init t c = go_first _ _ _ _ _ c.requires.ready _ _ c.begin-next.ensures

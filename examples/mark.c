@@ -1,7 +1,7 @@
 /* mark FILE: the mark of a proof table from C, in the lines that the program `mark` prints.
  *
- *     rt staticlib export
- *     cc -I include examples/mark.c target/staticlib/libexport.a -o mark */
+ *     tools/library
+ *     cc -I include examples/mark.c crates/export/out/libexport.a -o mark */
 #include <stdio.h>
 
 #include "sporekettle.h"

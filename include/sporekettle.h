@@ -1,6 +1,6 @@
 /* Sporekettle for C: marks proof tables, fills their goals, tests them. x86-64.
  *
- * Link with target/staticlib/libexport.a, which `rt staticlib export` writes once it has proved it. That needs nothing else but memset.
+ * Link with crates/export/out/libexport.a, which `tools/library` writes once it has proved it. That needs nothing else but memset.
  * The functions keep nothing between calls, and ask for no memory: every room is the caller's. docs/FORMAT.md has the table's format, docs/RULES.md the rules.
  *
  * What is proved of each function is its contract in crates/export/src/lib.rt. What a caller must see to, since no contract can:

@@ -1,4 +1,4 @@
-//! Links the static library `export`, which `rt staticlib export` writes.
+//! Links the static library `export`, which `tools/library` writes.
 
 use std::env;
 use std::path::{Path, PathBuf};
@@ -20,7 +20,7 @@ pub fn link() {
     }
     if !library.is_file() {
         stop(&format!(
-            "there is no file {}: run `rt staticlib export` in the repository, or set {VARIABLE} to the path of {FILE}",
+            "there is no file {}: run `tools/library` in the repository, or set {VARIABLE} to the path of {FILE}",
             library.display()
         ));
     }
@@ -40,6 +40,6 @@ fn library() -> PathBuf {
     let here = PathBuf::from(variable("CARGO_MANIFEST_DIR"));
     match env::var_os(VARIABLE) {
         Some(path) => here.join(path),
-        None => here.join("../target/staticlib").join(FILE),
+        None => here.join("../crates/export/out").join(FILE),
     }
 }

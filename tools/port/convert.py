@@ -7,6 +7,7 @@ The needs of an old proof and the goals of today stand in one order, so the n-th
 `.before`s, and a step gets today's name. An answer that is only a search is left out: the check searches by itself. What it cannot turn it says.
 """
 
+import difflib
 import json
 import os
 import re
@@ -96,7 +97,7 @@ class Turn:
             return "." + new if new and not re.fullmatch(r".*-1", new) else m[0]
 
         for of, was, arm, field in self.arms:
-            text = re.sub(rf"\.{re.escape(of)}" + (rf"\.{re.escape(was)}" if was else r"(?=\.rest)") + r"(?![\w'-])", f".{arm}.{field}", text)
+            text = re.sub(r"\." + re.sub("[-_]", "[-_]", of) + (rf"\.{re.escape(was)}" if was else r"(?=\.rest)") + r"(?![\w'-])", f".{arm}.{field}", text)
         text = re.sub(rf"\.({NAME})", step, text)
         for old, new in self.args.items():
             text = re.sub(rf"(?<=\.){re.escape(old)}(?![\w'-])", new, text)
@@ -115,7 +116,7 @@ class Turn:
         if self.pre:
             heads = [r"\.requires"] + [rf"(?<![\w'.-]){re.escape(x)}" for x in re.findall(rf"let ({NAME}) = (?:{NAME}\.)*requires in", text)]
             for head in heads:
-                text = re.sub(rf"({head})((?:\.[01])*)(?![\w.'-])", self.clause, text)
+                text = re.sub(rf"({head})((?:\.[01])*)(?![\w'-])", self.clause, text)
         for alias, of in re.findall(rf"let ({NAME}) = (?:{NAME}\.)+({NAME}) in", text):
             names = self.params.get(self.callee.get(of, ""), [])
 
@@ -136,7 +137,22 @@ def commas(text):
         if ch == "," and depth == 0:
             parts.append(text[last:i].strip())
             last = i + 1
-    return parts + [text[last:].strip()]
+    return parts + [text[last:].strip()] * bool(text[last:].strip())
+
+
+def taken_apart(goal, text, fields):
+    """A lemma's tuple, field by field."""
+    depth, at = 0, None
+    for m in re.finditer(r"[({\[]|[)}\]]|(?<= )in(?=\s)|(?<= )=(?=\s)", text):
+        depth += (m[0] in "({[") - (m[0] in ")}]")
+        if depth == 0 and (m[0] == "in" or m[0] == "=" and at is None):
+            at = m.end()
+    last = text[at:].strip()
+    if "search" == last[:6]:
+        return f"{goal}: a search for {fields}"
+    places = [".1" * k + (".0" if k + 1 < len(fields) else "") for k in range(len(fields))]
+    rec = "record { " + "; ".join(f"{f} = all{p}" for f, p in zip(fields, places)) + " }"
+    return [(goal, text[:at] + f"\n    let all = {last} in\n    {rec}")]
 
 
 def split(goal, whole, fields):
@@ -145,7 +161,7 @@ def split(goal, whole, fields):
         return None
     text = whole.rstrip()
     if not text.endswith(")"):
-        return f"{goal}: no tuple for {fields}"
+        return taken_apart(goal, text, fields)
     depth, at = 0, None
     for i in range(len(text) - 1, -1, -1):
         depth += (text[i] in ")}") - (text[i] in "({")
@@ -154,7 +170,7 @@ def split(goal, whole, fields):
             break
     head, tuple_ = text[:at], text[at + 1 : -1]
     if not re.search(r"(?:=|\bin)\s*$", head):
-        return f"{goal}: no tuple for {fields}"
+        return taken_apart(goal, text, fields)
     parts = commas(tuple_)
     while len(parts) < len(fields) and parts[-1].startswith("("):
         more = commas(parts[-1][1:-1])
@@ -202,7 +218,7 @@ def main():
             args = re.sub(r"\((\S+) t\)", r"\1", "\n".join(spec).split(word, 1)[1]).replace(")", " ").split()[3:]
         else:
             args = "\n".join(spec).split(word, 1)[1].replace(")", " ").split()
-        t = "t " if cycle else ""
+        at_t = "t " if cycle else ""
         turn = Turn(entry)
         made = {}
         plain, invs, answers, said = [], [], [], []
@@ -210,11 +226,18 @@ def main():
         holds = args[:count]
         needs = args[count:]
         if len(needs) != len(entry["needs"]):
-            said.append(f"{len(needs)} answers, {len(entry['needs'])} goals")
+            same = difflib.SequenceMatcher(None, [norm(n) for n in needs], [norm(n[0]) for n in entry["needs"]], autojunk=False)
+            kept = [k for m in same.get_matching_blocks() for k in range(m.a, m.a + m.size)]
+            said.append(f"{len(needs)} answers, {len(entry['needs'])} goals; gone: " + " ".join(n for k, n in enumerate(needs) if k not in kept))
+            if len(kept) == len(entry["needs"]):
+                gone = [n for k, n in enumerate(needs) if k not in kept]
+                needs = [needs[k] for k in kept]
+                decls = [b for b in decls if not any(re.match(rf"{re.escape(g)} :", l) for g in gone for l in b)]
         goal_of = dict(zip(needs, [n[1] for n in entry["needs"]]))
+        old_of = dict(zip(needs, [n[0] for n in entry["needs"]]))
         place_of = dict(zip(needs, [a[0] for a in entry["asked_at"]]))
         for b in decls:
-            if b is spec or cycle and any(re.match(r"(?:abbrev )?(?:μ|at|below|claims)\b.* : ", l) for l in b):
+            if b is spec or cycle and any(re.match(r"(?:abbrev )?(?:\S+[-_])?(?:μ\S*|at|below|claims) : ", l) for l in b):
                 continue
             i = next(k for k, l in enumerate(b) if l and not l.startswith("--"))
             sig = b[i]
@@ -250,25 +273,30 @@ def main():
                 new = goal_of[name]
                 whole = "\n".join(body)
                 short = re.sub(r"\s+", " ", whole)
-                if re.fullmatch(rf"{re.escape(name)} {t}c(?: κs)? = search rules", short):
+                if re.fullmatch(rf"{re.escape(name)} {at_t}c(?: κs)? = search rules", short):
                     continue
-                whole = re.sub(rf"^{re.escape(name)} {t}c(?: κs)? =", f"{new} {t}c =", whole, flags=re.M)
+                whole = re.sub(rf"^{re.escape(name)} {at_t}c(?: κs)? =", f"{new} {at_t}c =", whole, flags=re.M)
                 if cycle:
                     whole = re.sub(r"\.requires\.0(?![\w'.])", ".decreases", whole)
                     whole = re.sub(r"\.requires\.1", ".requires", whole)
                 whole = Turn(entry, place_of.get(name)).path(whole)
-                parts = split(new, whole, entry["asked"].get(new))
+                parts = split(new, whole, entry["asked"].get(old_of[name]) or entry["asked"].get(new))
                 if isinstance(parts, str):
                     said.append(parts)
                     parts = None
                 if parts is None:
                     answers.append("\n".join(comments + [f"pub {new} : goal.{new}", whole]))
-                for n, t in parts or []:
-                    answers.append("\n".join(comments + [f"pub {n} : goal.{n}", t]))
+                for n, text2 in parts or []:
+                    answers.append("\n".join(comments + [f"pub {n} : goal.{n}", text2]))
             else:
                 plain.append((name, "\n".join(b)))
                 if "tie." in "\n".join(b):
                     said.append(f"{name}: speaks of a place")
+        measure = re.search(r"^μ\S* κs a = a((?:\.1)*)\.0(\S*)$", text, re.M) if cycle else None
+        if measure:
+            f_name = os.path.basename(folder)[1:]
+            own = next((p for c, p in entry["params"].items() if c.split("::")[-1] == f_name), [])
+            invs.append(f"abbrev pub decreases-{f_name} : goal.decreases-{f_name}\ndecreases-{f_name} l = l.{own[measure[1].count('.1')]}{measure[2]}")
         module = f"Rattle.{crate}.proofs.{path}"
         # helpers go with whoever uses them
         for what, which, items in (("Invariants", "Given", invs), ("Answers", "Goals", answers)):

@@ -51,7 +51,7 @@ abbrev named_at : Rooms → ℕ → ℕ
 named_at R i = (goal_at R.goals i).term.0
 
 module _ (l : List ℕ) (R : Rooms) (c : ℕ) where
-  pub goal_term : (n m : ℕ) {g : Gap} {ts : Trees} (p : At g ts) → TreesAre l R c n m ts → (goal_at R.goals (m + length (before p))).term.0 ≡ g.term
+  pub goal_term : {g : Gap} (n m : ℕ) {ts : Trees} (p : At g ts) → TreesAre l R c n m ts → (goal_at R.goals (m + length (before p))).term.0 ≡ g.term
   unfolding TreesAre before
   goal_term n m (here {ts = ts}) h = ap (named_at R) (omega arith) ∙ ap (λ (x : Goal). x.term.0) h.0.goal
   goal_term n m (past_gap p) h = ap (named_at R) (omega arith) ∙ goal_term (n + 1) (m + 1) p h.1

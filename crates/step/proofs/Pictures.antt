@@ -122,7 +122,7 @@ pictures_beside l ps w a c m (gap g ts) us h k = (h.0, pictures_beside l ps w a 
 pictures_beside l ps w a c m (node nd vs ts) us h k = (h.0, pictures_beside l ps w a c (m + holes vs) ts us h.1 (subst (λ (i : ℕ). PicturesAre l ps w a c i us) (omega arith) k))
 
 -- the goal that is asked for, where it stands
-pub picture_at : {l ps w : List ℕ} {a c : ℕ} (m : ℕ) {g : Gap} {ts : Trees} (p : At g ts) → m + length (before p) ≡ a → PicturesAre l ps w a c m ts → PictureIs l ps w c g
+pub picture_at : {l ps w : List ℕ} {a c : ℕ} {g : Gap} (m : ℕ) {ts : Trees} (p : At g ts) → m + length (before p) ≡ a → PicturesAre l ps w a c m ts → PictureIs l ps w c g
 unfolding PicturesAre before
 picture_at m (here {ts = ts}) e h = h.0 (omega arith)
 picture_at m (past_gap {h = q} p) e h = picture_at (m + 1) p (omega arith) h.1

@@ -1,0 +1,6 @@
+use Rattle.prop.proofs.Places.{all_changed}
+use borrow.Author.Rules.{rules}
+use Rattle.arena.proofs.load.load_atom.Goals as goal
+
+pub returns : goal.returns
+returns c = search all_changed

@@ -1,0 +1,6 @@
+use Rattle.prop.proofs.Places.{all_pass}
+use borrow.Author.Rules.{rules}
+use Rattle.arena.proofs.resolve.atom_known.Goals as goal
+
+pub returns : goal.returns
+returns c = search all_pass

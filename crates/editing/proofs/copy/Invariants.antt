@@ -1,0 +1,12 @@
+use Prim.Native.Nat.{◌≤◌, ◌-◌}
+use native.Mathlib.Omega.{arith}
+use borrow.Author.Rules.{rules}
+use Rattle.editing.specs.Copied.{changed, Copied}
+use Rattle.editing.proofs.Rows.{copied_none, copied_more, copied_all, row_at}
+use Rattle.editing.proofs.copy.Given as goal
+
+abbrev pub invariant-loop-i : goal.invariant-loop-i
+invariant-loop-i l = (l.i ≤ l.n) × Copied (changed l.change) l.source l.first l.i l.initial.table l.to l.table
+
+abbrev pub decreases-loop-i : goal.decreases-loop-i
+decreases-loop-i l = l.n - l.i

@@ -1,0 +1,6 @@
+use borrow.Author.Rules.{rules}
+use Rattle.editing.proofs.Rows.{header_put}
+use Rattle.editing.proofs.put_header.Goals as goal
+
+pub returns : goal.returns
+returns c = search header_put

@@ -1,0 +1,6 @@
+use borrow.Author.Rules.{rules}
+use Rattle.editing.proofs.Rows.{put_at_count}
+use Rattle.editing.proofs.put_term.Goals as goal
+
+pub returns : goal.returns
+returns c = search put_at_count

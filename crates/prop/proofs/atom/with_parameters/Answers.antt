@@ -1,0 +1,6 @@
+use Rattle.prop.proofs.Places.{writes}
+use borrow.Author.Rules.{rules}
+use Rattle.prop.proofs.atom.with_parameters.Goals as goal
+
+pub returns : goal.returns
+returns c = search writes

@@ -1,0 +1,6 @@
+use Rattle.prop.proofs.Occurs.{holds_in_one}
+use borrow.Author.Rules.{rules}
+use Rattle.prop.proofs.holds.atom_holds.Goals as goal
+
+pub returns : goal.returns
+returns c = search holds_in_one

@@ -57,12 +57,12 @@ module _ (l : List ℕ) (R₀ : Rooms) (k : ℕ) (w : Want) (st : State) (R : Ro
   left_below j (next.Refused r) a = omega arith
 
   -- what a rule of term k goes on with is what the term goes on with
-  next_of : {m : ℕ} {v : Want} {z : State} (j : ℕ) → m ≡ k → ((R' : Rooms) (r : Ran) → RanAs l R₀ R' m v z r → RanAs l R₀ R' k w st r) → (n : Next) → NextIs l R₀ m v z j R n → NextIs l R₀ k w st j R n
-  next_of j e h (next.Ask f q x v s) a = (a.0, (a.1.0 ∙ e, subst (λ (m : ℕ). length (after (term_record l m) q) < j) e a.1.1), λ R' r m. h R' r (a.2 R' r m))
-  next_of j e h (next.Instead x v s) a =
+  next_of : {m : ℕ} (u : Want) {z : State} (j : ℕ) → m ≡ k → ((R' : Rooms) (r : Ran) → RanAs l R₀ R' m u z r → RanAs l R₀ R' k w st r) → (n : Next) → NextIs l R₀ m u z j R n → NextIs l R₀ k w st j R n
+  next_of u j e h (next.Ask f q x v s) a = (a.0, (a.1.0 ∙ e, subst (λ (m : ℕ). length (after (term_record l m) q) < j) e a.1.1), λ R' r m. h R' r (a.2 R' r m))
+  next_of u j e h (next.Instead x v s) a =
       (a.0, subst (λ (m : ℕ). ((m < x.0) × (x.0 < terms l)) × (synthesizes (term_record l m).kind ≡ false)) e a.1, λ R' r m. h R' r (a.2 R' r m))
-  next_of j e h (next.Done T s) a = h R (ran.Has T s) a
-  next_of j e h (next.Refused r) a = h R (ran.Refused r) a
+  next_of u j e h (next.Done T s) a = h R (ran.Has T s) a
+  next_of u j e h (next.Refused r) a = h R (ran.Refused r) a
 
 -- what was begun as the code says
 pub begins_as : {l : List ℕ} {R R' : Rooms} {k : ℕ} {st : State} {v w : Want} (u : Want) → u ≡ v → u ≡ w → (n : Next) → Begins l R R' k w st n → Begins l R R' k v st n
@@ -127,7 +127,7 @@ module _ (l : List ℕ) (R₀ : Rooms) (k : ℕ) (w : Want) (st : State) where
 
           module _ (tr ps wk : List ℕ) (n' : Next) (rs : Resumes l R₁ (rooms tr R₁.goals ps wk) f q T s₂ n') where
             pub go_again : Going (rooms tr R₁.goals ps wk) n'
-            go_again = (_, next_of l R₀ k v st (rooms tr R₁.goals ps wk) _ asks.1.0 asks.2 n' (rs.goes R₀ resumed))
+            go_again = (_, next_of l R₀ k v st (rooms tr R₁.goals ps wk) f.want _ asks.1.0 asks.2 n' (rs.goes R₀ resumed))
 
             pub go_less : left l n' < left l n
             go_less =

@@ -1,3 +1,4 @@
+use native.Mathlib.Omega.{arith}
 use Rattle.step.proofs.Typings.{annotation_prop, annotation_data}
 use borrow.Author.Rules.{rules}
 use Rattle.step.proofs.typing.annotation_of.Goals as goal
@@ -6,4 +7,4 @@ pub returns-in-1 : goal.returns-in-1
 returns-in-1 c = annotation_prop _ _ c.in-1.is
 
 pub returns-in_default : goal.returns-in_default
-returns-in_default c = annotation_data _ _ c.in_default.in_default-own.rest.0.1 c.in_default.in_default-own.rest.1
+returns-in_default c = annotation_data _ _ (λ e. omega arith) (λ e. omega arith)

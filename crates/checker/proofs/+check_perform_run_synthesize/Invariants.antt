@@ -1,0 +1,24 @@
+use Prim.Native.Nat.{ℕ}
+use Rattle.step.specs.Rooms.{rooms}
+use Rattle.checker.proofs.Turns.{rank, left, Going}
+use Rattle.checker.proofs.+check_perform_run_synthesize.Given as goal
+
+abbrev pub decreases-check : goal.decreases-check
+decreases-check l = rank l.file.now l.k.0 1
+
+abbrev pub decreases-perform : goal.decreases-perform
+decreases-perform l = rank l.file.now l.k.0 0
+
+abbrev pub decreases-run : goal.decreases-run
+decreases-run l = rank l.file.now l.k.0 2
+
+abbrev pub decreases-synthesize : goal.decreases-synthesize
+decreases-synthesize l = rank l.file.now l.k.0 1
+
+-- what the term goes on with, in the rooms that it was begun in and those of now
+abbrev pub invariant-perform-loop-next : goal.invariant-perform-loop-next
+invariant-perform-loop-next l =
+    Going l.file (rooms l.fn.tree l.fn.goals l.fn.props l.fn.work) l.k.0 l.w l.st (rooms l.tree l.goals l.props l.work) l.next
+
+abbrev pub decreases-perform-loop-next : goal.decreases-perform-loop-next
+decreases-perform-loop-next l = left l.file l.next

@@ -1,0 +1,33 @@
+use mathlib.Core.Path.{subst, sym, ◌∙◌}
+use Rattle.step.specs.Modes.{WantIn}
+use Rattle.rule.proofs.Settles.{begun_check}
+use Rattle.checker.proofs.Turns.{begins_as}
+use borrow.Author.Rules.{rules}
+use Rattle.checker.proofs.begin.Goals as goal
+
+pub begun_as-requires : goal.begun_as-requires
+begun_as-requires c = (c.requires.ready.base.table.counted, c.requires.ready.here)
+
+pub begin-requires : goal.begin-requires
+begin-requires c = (_, c.requires.ready)
+
+pub begin-requires-in-Check-clause-ready : goal.begin-requires-in-Check-clause-ready
+begin-requires-in-Check-clause-ready c =
+    let said = begun_check _ _ _ (sym c.in-Check.is ∙ c.begun_as.ensures) in
+    c.requires.ready
+
+pub begin-requires-in-Check-clause-type_in : goal.begin-requires-in-Check-clause-type_in
+begin-requires-in-Check-clause-type_in c =
+    let said = begun_check _ _ _ (sym c.in-Check.is ∙ c.begun_as.ensures) in
+    subst (WantIn _) said.1 c.requires.want_in
+
+pub begin-requires-in-Check-clause-k_value : goal.begin-requires-in-Check-clause-k_value
+begin-requires-in-Check-clause-k_value c =
+    let said = begun_check _ _ _ (sym c.in-Check.is ∙ c.begun_as.ensures) in
+    said.0
+
+pub returns-in-Synth : goal.returns-in-Synth
+returns-in-Synth c = begins_as _ c.begun_as.ensures c.in-Synth.is c.begin.result (c.begin.ensures _)
+
+pub returns-in-Check : goal.returns-in-Check
+returns-in-Check c = begins_as _ c.begun_as.ensures c.in-Check.is c.begin-in-Check.result c.begin-in-Check.ensures

@@ -1,0 +1,6 @@
+use Rattle.rule.proofs.Applications.{concludes_by}
+use borrow.Author.Rules.{rules}
+use Rattle.rule.proofs.application.concludes.Goals as goal
+
+pub returns : goal.returns
+returns c = λ l goals ps work t. record { goes = λ R₀ a. (c.by.ensures l goals ps work).goes R₀ (concludes_by a) }

@@ -1,0 +1,8 @@
+use Rattle.rule.proofs.Pairs.{pairing_begins}
+use Rattle.rule.proofs.Going.{asking}
+use native.Mathlib.Omega.{arith}
+use borrow.Author.Rules.{rules}
+use Rattle.rule.proofs.pair.synthesize.Goals as goal
+
+pub returns : goal.returns
+returns c = λ R. record { begins = λ rd. asking 3 (λ r. r.child1) _ c.term_record-r.ensures _ c.inner.ensures (pairing_begins rd c.requires.k_value) (omega arith) }

@@ -1,0 +1,19 @@
+use mathlib.Core.Path.{refl}
+use Rattle.entry.specs.declared.Mark.{Mark}
+use Rattle.entry.specs.Mark.{Marks}
+use Rattle.step.specs.Rooms.{rooms}
+use Rattle.export.specs.Answer.{mark_record}
+use Rattle.export.proofs.Returning.{returns_short, returns_written}
+use borrow.Author.Rules.{rules}
+use Rattle.export.proofs.sporekettle_check.Goals as goal
+
+pub returns-then-answer-lt-ANSWER : goal.returns-then-answer-lt-ANSWER
+returns-then-answer-lt-ANSWER c =
+    let s = c in
+    returns_short Mark (Marks s.args.file.now (rooms s.args.tree.now s.args.goals.now s.args.props.now s.args.work.now) (rooms s.args.tree.now s.args.goals.now s.args.props.now s.args.work.now)) mark_record _ s.args.answer.now c.if-answer-lt-ANSWER.true refl
+
+pub returns : goal.returns
+returns c =
+    let s = c in
+    let run = c.check-mark in
+    returns_written Mark (Marks s.args.file.now (rooms s.args.tree.now s.args.goals.now s.args.props.now s.args.work.now) (rooms run.new.tree run.new.goals run.new.props run.new.work)) mark_record _ s.args.answer.now _ run.result _ c.if-answer-lt-ANSWER.false run.ensures c.of_mark.ensures c.put.ensures

@@ -8,7 +8,6 @@ use Prim.Native.Nat.{ℕ, ◌+◌, ◌*◌, ◌<◌, ◌≤◌}
 use native.Mathlib.Nat.{add-mul}
 use native.Mathlib.Omega.{arith}
 use lib.Dec.{eqb}
-use borrow.Author.Tests.{not-true, not-false}
 use Rattle.numbers.specs.declared.record.Record.{Record}
 use Rattle.numbers.specs.Limits.{most_propositions, most_terms}
 use Rattle.numbers.specs.Refusals.{refusal_at}
@@ -30,7 +29,6 @@ use Rattle.table.specs.Reading.{prop_at, term_at}
 use Rattle.table.specs.Tests.{counts, or_term, formless, badly_linked, oversized, open_goal, unless, accused}
 use Rattle.table.specs.Tests.{from_goal, from_sizes, from_links, from_expected, from_forms, from_counts, tests}
 use Rattle.table.specs.Passing.{Counted, Formed, Linked, Directed, Good}
-use Rattle.table.proofs.Headers.{counted}
 use Rattle.table.proofs.Firsts.{first_nobody}
 use Rattle.table.proofs.Links.{directed, expected_in}
 use Rattle.table.proofs.Reading.{place_at}

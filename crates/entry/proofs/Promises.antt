@@ -3,7 +3,7 @@ use mathlib.Core.Path.{◌≡◌, refl, ap, sym, subst, subst⁻¹, subst₂, �
 use mathlib.Core.Bool.{Bool, true, false, cond, true≢false, false≢true}
 use mathlib.Core.List.{List, [], ◌∷◌, map, map-append}
 use mathlib.Core.Logic.{◌⊎◌, inl, inr}
-use Prim.Native.Nat.{ℕ, zero, ◌+◌, ◌<◌, ◌≤◌}
+use Prim.Native.Nat.{ℕ, ◌+◌, ◌<◌, ◌≤◌}
 use native.Mathlib.Omega.{arith}
 use borrow.Author.Tests.{ltb-true, ltb-false}
 use lib.ListN.{length, get_or, length-map}
@@ -37,9 +37,9 @@ use Rattle.step.proofs.Goals.{goal_place, goal_term}
 use Rattle.entry.specs.declared.Counts.{Counts}
 use Rattle.entry.specs.declared.Mark.{Mark}
 use Rattle.entry.specs.declared.Mark.TheVariants as mark
-use Rattle.entry.specs.Mark.{long_enough, root_run, unless_refused, table_run, outcome, counts_of, Holds, Kept, MarkedAs, Marks}
+use Rattle.entry.specs.Mark.{long_enough, root_run, unless_refused, table_run, outcome, counts_of, Holds, Kept, MarkedAs}
 use Rattle.entry.proofs.Answers.{is_accepted, counts_of_mark, is_ok, table_ok}
-use Rattle.entry.specs.Promises.{Accepted, OnlyThen, AlwaysThen, AcceptedHolds, Sorries, GoalsAreSorries, Agree, AgreeNode, AgreeGoal, SameTree, SameIf, TwoRunsAgree}
+use Rattle.entry.specs.Promises.{OnlyThen, AlwaysThen, AcceptedHolds, Sorries, GoalsAreSorries, Agree, AgreeNode, AgreeGoal, SameTree, SameIf, TwoRunsAgree}
 
 -- WHAT AN ACCEPTANCE SAYS
 outcome_ok : (l : List ℕ) (R : Rooms) (a : Answer) (st : St) → outcome l R ≡ ok a st → (long_enough R ≡ true) × Good Check l × (root_run l ≡ ok a st)

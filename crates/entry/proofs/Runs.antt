@@ -10,7 +10,6 @@ use Rattle.layout.specs.File.{props, terms, expected}
 use Rattle.rules.specs.Prop.{Ty, prop}
 use Rattle.rules.specs.Context.{Ctx}
 use Rattle.rules.specs.Term.{nodes}
-use Rattle.rules.specs.Tree.{records, holes}
 use Rattle.rules.specs.Step.{check, Out, Answer}
 use Rattle.rules.specs.Rules.{run}
 use Rattle.rules.proofs.Spent.{run_spends}

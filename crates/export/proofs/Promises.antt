@@ -1,12 +1,10 @@
 -- The statements of specs/Promises.antt: an answer that is right is the only one. Assumes nothing.
 use mathlib.Core.Path.{◌≡◌, ap, sym, subst, ◌∙◌}
-use mathlib.Core.Bool.{Bool, true}
+use mathlib.Core.Bool.{Bool}
 use mathlib.Core.List.{List}
 use Prim.Native.Nat.{ℕ}
-use lib.ListN.{length}
-use lib.Dec.{leb}
 use Rattle.numbers.specs.declared.record.Record.{Record}
-use Rattle.table.specs.Tests.{test_room, unless, tests}
+use Rattle.table.specs.Tests.{unless, tests}
 use Rattle.entry.proofs.Promises.{two_runs_agree}
 use Rattle.filling.proofs.Promises.{two_fillings_agree}
 use Rattle.export.specs.Answer.{ReturnsAs, Returns, verdict_record, mark_record, filled_record}

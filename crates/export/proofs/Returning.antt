@@ -7,7 +7,7 @@ use lib.ListN.{length}
 use borrow.Author.Tests.{le-leb, lt-leb}
 use Rattle.numbers.specs.declared.record.Record.{Record}
 use Rattle.numbers.specs.Records.{Put}
-use Rattle.export.specs.Answer.{answer_bytes, answered, no_room, Written, ReturnsAs, Returns}
+use Rattle.export.specs.Answer.{answer_bytes, answered, no_room, ReturnsAs, Returns}
 
 module _ (A : Type 0) (Right : A → Type 0) (form : A → Record) (Same : Type 0) (a : List ℕ) where
   pub returns_short : length a < answer_bytes → Same → Returns A Right form Same a a no_room

@@ -4,12 +4,11 @@ use mathlib.Core.List.{List}
 use Prim.Native.Nat.{ℕ, ◌≤◌}
 use native.Mathlib.Omega.{arith}
 use Rattle.numbers.specs.Limits.{most_terms}
-use Rattle.layout.specs.File.{props, terms}
 use Rattle.rules.specs.Prop.{Ty}
 use Rattle.rules.specs.Context.{Ctx}
 use Rattle.rules.specs.State.{St}
 use Rattle.rules.specs.Term.{nodes}
-use Rattle.rules.specs.Tree.{Gap, records, holes}
+use Rattle.rules.specs.Tree.{Gap}
 use Rattle.rules.specs.Step.{check, Out, ok, Answer}
 use Rattle.rules.specs.Rules.{run}
 use Rattle.rules.specs.Filling.{at_goal}

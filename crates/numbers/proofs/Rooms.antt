@@ -1,7 +1,7 @@
 -- Rooms filled with zeros from the front. Assumes nothing.
 use mathlib.Core.Path.{◌≡◌, refl, ap, ◌∙◌}
 use mathlib.Core.List.{List, [], ◌∷◌, ◌++◌}
-use Prim.Native.Nat.{ℕ, min, ◌≤◌, ◌+◌}
+use Prim.Native.Nat.{ℕ, ◌≤◌}
 use native.Mathlib.Omega.{arith}
 use native.Mathlib.Nat.{min-eq_left, min-eq_right}
 use lib.ListN.{length, drop, replicate, drop_of_length-le}

@@ -9,7 +9,6 @@ use Rattle.numbers.specs.declared.Sort.{Sort}
 use Rattle.numbers.specs.declared.Term.{Term as Place}
 use Rattle.numbers.specs.declared.record.Record.{Record}
 use Rattle.numbers.specs.declared.refusal.Refusal.{Refusal}
-use Rattle.numbers.specs.Limits.{none}
 use Rattle.numbers.specs.Records.{Put}
 use Rattle.layout.specs.declared.record.TermRecord.{TermRecord}
 use Rattle.layout.specs.File.{props, term_record}

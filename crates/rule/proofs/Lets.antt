@@ -10,7 +10,7 @@ use Rattle.numbers.specs.declared.record.Record.{Record}
 use Rattle.numbers.specs.declared.refusal.Refusal.{Refusal}
 use Rattle.numbers.specs.Records.{Put}
 use Rattle.layout.specs.declared.record.TermRecord.{TermRecord}
-use Rattle.layout.specs.File.{props, term_record}
+use Rattle.layout.specs.File.{term_record}
 use Rattle.rules.specs.Context.{Ctx, entry}
 use Rattle.rules.specs.Prop.{Prop, prop, datatype}
 use Rattle.rules.specs.Term.{Double}

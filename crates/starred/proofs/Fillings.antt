@@ -1,15 +1,15 @@
 -- Case 13 as files: the edited tables byte by byte, and what every call of `fill` answers.
 -- Assumes nothing.
-use mathlib.Core.Path.{◌≡◌, refl, ap, sym, subst, ◌∙◌}
+use mathlib.Core.Path.{◌≡◌, refl, sym, subst, ◌∙◌}
 use mathlib.Core.Bool.{Bool, true, false, ◌&&◌}
 use mathlib.Core.List.{List, [], ◌∷◌}
 use Prim.Native.Nat.{ℕ, zero, suc, ◌<◌}
 use native.Mathlib.Omega.{arith}
 use native.Mathlib.Nat.{le_of_suc-le-suc, not-suc-le-zero}
 use lib.Dec.{ltb, T, leb→le}
-use lib.ListN.{length, get_or, take}
+use lib.ListN.{length}
 use Rattle.rules.specs.State.{St}
-use Rattle.rules.specs.Tree.{Gap, Trees, holes, records}
+use Rattle.rules.specs.Tree.{Gap, holes}
 use Rattle.rules.specs.Term.{plug}
 use Rattle.rules.specs.Step.{Out, stop, ok, Answer}
 use Rattle.rules.specs.Filling.{At, here, within, before, at_goal}

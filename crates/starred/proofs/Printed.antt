@@ -1,28 +1,24 @@
 -- Every call prints the mark that `rules` gives the table.
 -- Assumes nothing.
 use mathlib.Core.Path.{◌≡◌, refl, ap, sym, subst, ◌∙◌}
-use mathlib.Core.Bool.{Bool, true, false, cond}
+use mathlib.Core.Bool.{Bool, cond}
 use mathlib.Core.List.{List, [], ◌∷◌, ◌++◌, map}
 use Prim.Native.Nat.{ℕ, suc, ◌+◌}
 use native.Mathlib.Omega.{arith}
 use lib.ListN.{length, length-append, length-map}
 use Rattle.numbers.specs.declared.record.Record.{Record}
-use Rattle.numbers.specs.Records.{record_at}
-use Rattle.layout.specs.File.{props}
-use Rattle.rules.specs.State.{St}
 use Rattle.rules.specs.Tree.{Gap, Trees, end, gap, node, goals, records, holes}
 use Rattle.rules.specs.Tree as tree
 use Rattle.rules.specs.Step.{Out, stop, refused, ok, Answer}
-use Rattle.rules.specs.Cases.{Line, line, Goal, goal, width, lines, Mark, no, yes, mark}
+use Rattle.rules.specs.Cases.{Line, goal, width, lines, mark}
 use Rattle.rules.proofs.Spent.{holes_goals}
 use Rattle.step.specs.declared.node.Goal as declared
 use Rattle.step.specs.Rooms.{Rooms}
-use Rattle.step.specs.Trees.{second_serial, goal_at, TreesAre}
+use Rattle.step.specs.Trees.{second_serial, TreesAre}
 use Rattle.entry.specs.declared.Counts.{Counts}
 use Rattle.entry.specs.declared.Mark.{Mark as Answered}
-use Rattle.entry.specs.declared.Mark.TheVariants as answered
-use Rattle.entry.specs.Mark.{long_enough, table_run, outcome, counts_of, Kept, MarkedAs, Marks}
-use Rattle.starred.specs.Printed.{LineIs, GoalIs, LinesAre, GoalsAre, Yes, Prints, MarkedBy}
+use Rattle.entry.specs.Mark.{table_run, outcome, counts_of, MarkedAs}
+use Rattle.starred.specs.Printed.{LinesAre, GoalsAre, Yes, Prints, MarkedBy}
 
 same_width : (ts : Trees) → tree.width ts ≡ width ts
 unfolding tree.width width

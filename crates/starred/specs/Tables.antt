@@ -1,7 +1,7 @@
 -- Document 01, "Scripts every build marks" and "Marking errors to shut out", as files: what their bytes read as, and their mark. The rows say what those
 -- of `Cases` say, with names that no predicate has. Assumes nothing.
 use Rattle.std.specs.Prelude.{◌≡◌, List, [], ◌∷◌, map, ℕ}
-use Rattle.std.proofs.Math.Option.{Option, none, some}
+use Rattle.std.proofs.Math.Option.{none, some}
 use Rattle.rules.specs.Prop.{free, bound, made, Prop, atom, prop, datatype, each_param, each, named_not, closed}
 use Rattle.rules.specs.Term.{Term, sorry}
 use Rattle.rules.specs.Cases.{line, goal, Mark, no, yes, width, lines, mark, begin, from, ident, unit, fst, fun, abort, ascribe, pair, app, let_in}

@@ -15,7 +15,7 @@ use Rattle.rules.specs.Context.{Ctx}
 use Rattle.rules.specs.State.{St, limit}
 use Rattle.rules.specs.Term.{Term, leaf, single, double, triple, sorry, nodes, place}
 use Rattle.rules.specs.Tree.{end, node, ◌⊕◌, stack, records, holes, width}
-use Rattle.rules.specs.Step.{Want as Mode, check, Refusal as Fault, Out, stop, ok, then, Answer, Steps, Arity, done, more, Prog, conclude, ask, Kids, obey, answered, finish, perform}
+use Rattle.rules.specs.Step.{Want as Mode, check, Refusal as Fault, Out, stop, ok, then, Answer, Steps, Arity, Prog, conclude, ask, Kids, obey, answered, finish, perform}
 use Rattle.rules.specs.Rules.{leaf_step, single_step, double_step, triple_step, sorry_run, kid, run}
 use Rattle.rules.proofs.Filling.{join_end}
 use Rattle.rules.proofs.Spent.{records_beside, holes_beside, width_beside, Spent, run_spends}

@@ -1,5 +1,5 @@
 -- What rooms that have grown keep: types, contexts and trees mean the same. Assumes nothing.
-use mathlib.Core.Path.{◌≡◌, refl, ap, subst, subst₂, subst⁻¹, ◌∙◌}
+use mathlib.Core.Path.{◌≡◌, refl, ap, subst₂, subst⁻¹, ◌∙◌}
 use mathlib.Core.List.{List}
 use Prim.Native.Nat.{ℕ, ◌+◌, ◌<◌, ◌≤◌}
 use native.Mathlib.Omega.{arith}
@@ -14,7 +14,7 @@ use Rattle.prop.proofs.Rooms.{room_same, type_same, type_more}
 use Rattle.context.specs.Context.{entry_at}
 use Rattle.context.proofs.Laws.{ctx_same, ctx_read_same}
 use Rattle.step.specs.declared.state.State.{State}
-use Rattle.step.specs.Rooms.{Rooms, rooms, reads, ctx_of, count_of, leaving, Stands, Entries, Loaded}
+use Rattle.step.specs.Rooms.{Rooms, reads, ctx_of, count_of, leaving, Stands, Entries, Loaded}
 use Rattle.step.specs.Trees.{goal_at, NodeIs, GapIs, TreesAre}
 use Rattle.step.specs.Picture.{PicturesAre}
 use Rattle.step.specs.Contract.{Grown, Left}

@@ -1,5 +1,5 @@
 -- How each kind of term begins: its rule's program over its children's runs, where its children stand, how many nodes it has. Assumes nothing.
-use mathlib.Core.Path.{◌≡◌, refl, ap, subst, subst⁻¹, ◌∙◌}
+use mathlib.Core.Path.{◌≡◌, refl, ap, subst⁻¹, ◌∙◌}
 use mathlib.Core.List.{List, [], ◌∷◌}
 use Prim.Native.Nat.{ℕ, ◌+◌, ◌<◌}
 use Rattle.layout.specs.declared.record.TermRecord.{TermRecord}

@@ -2,13 +2,12 @@
 -- whatever comes after that part. Assumes nothing.
 use Rattle.std.specs.Prelude.{◌≡◌, List, [], ◌∷◌, ℕ, zero, suc, ◌+◌, ◌≤◌, length}
 use Rattle.std.proofs.Math.Option.{Option, none, some}
-use Rattle.numbers.specs.declared.Proposition.{Proposition}
 use Rattle.numbers.specs.declared.Sort.{Sort}
 use Rattle.numbers.specs.declared.Sort.TheVariants as sort
 use Rattle.numbers.specs.declared.refusal.Refusal.{Refusal}
 use Rattle.numbers.specs.Records.{Same}
 use Rattle.layout.specs.File.{props}
-use Rattle.rules.specs.Prop.{Prop, Ty, prop, datatype}
+use Rattle.rules.specs.Prop.{Prop, Ty, prop}
 use Rattle.rules.specs.Context.{entry}
 use Rattle.rules.specs.State.{limit}
 use Rattle.rules.specs.Step.{Arity, more, Prog, Kids, obey, resolved, objected}

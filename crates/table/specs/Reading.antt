@@ -1,6 +1,6 @@
 -- What a table's records stand for: a proposition and a term of the rules, read from any bytes.
 -- Assumes nothing.
-use Rattle.std.specs.Prelude.{Bool, false, cond, not, List, [], ◌∷◌, map, ℕ, zero, suc, take, eqb, ltb}
+use Rattle.std.specs.Prelude.{Bool, false, cond, List, [], ◌∷◌, map, ℕ, zero, suc, take, eqb, ltb}
 use Rattle.std.proofs.Math.Option.{Option, none, some}
 use Rattle.numbers.specs.declared.record.Record.{Record}
 use Rattle.rules.specs.Prop.{Param, free, bound, Prop, const, link, quant, atom, table, Ty, prop, datatype}

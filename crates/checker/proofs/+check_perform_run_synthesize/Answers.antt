@@ -1,4 +1,4 @@
-use Rattle.checker.proofs.Turns.{rank_below, go_first, go_ended, go_refused, go_instead, go_there, go_child, go_stop, go_resume, go_again, go_less, ran_as}
+use Rattle.checker.proofs.Turns.{rank_below, go_first, go_ended, go_refused, go_instead, go_there, go_child, go_stop, go_resume, go_again, go_less}
 use native.Mathlib.Omega.{arith}
 use mathlib.Core.Path.{subst}
 use Rattle.step.specs.Modes.{WantIn}

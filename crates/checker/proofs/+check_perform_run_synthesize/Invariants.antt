@@ -1,4 +1,3 @@
-use Prim.Native.Nat.{ℕ}
 use Rattle.step.specs.Rooms.{rooms}
 use Rattle.checker.proofs.Turns.{rank, left, Going}
 use Rattle.checker.proofs.+check_perform_run_synthesize.Given as goal

@@ -2,7 +2,6 @@ use mathlib.Core.Path.{subst, sym, ◌∙◌}
 use Rattle.step.specs.Modes.{WantIn}
 use Rattle.rule.proofs.Settles.{begun_check}
 use Rattle.checker.proofs.Turns.{begins_as}
-use borrow.Author.Rules.{rules}
 use Rattle.checker.proofs.begin.Goals as goal
 
 pub begun_as-requires : goal.begun_as-requires

@@ -1,8 +1,5 @@
 use Prim.Native.Nat.{◌≤◌, ◌-◌}
-use native.Mathlib.Omega.{arith}
-use borrow.Author.Rules.{rules}
 use Rattle.editing.specs.Copied.{changed, Copied}
-use Rattle.editing.proofs.Rows.{copied_none, copied_more, copied_all, row_at}
 use Rattle.editing.proofs.copy.Given as goal
 
 abbrev pub invariant-loop-i : goal.invariant-loop-i

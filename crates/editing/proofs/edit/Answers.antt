@@ -1,4 +1,3 @@
-use borrow.Author.Rules.{rules}
 use Rattle.editing.proofs.Edits.{both_tested}
 use Rattle.editing.proofs.Rows.{joined_inside, edited_put}
 use Rattle.editing.proofs.edit.Goals as goal

@@ -1,4 +1,3 @@
-use borrow.Author.Rules.{rules}
 use Rattle.editing.specs.Edited.{edited_from_sizes}
 use Rattle.table.proofs.Verdicts.{accuses, goes_past}
 use Rattle.editing.proofs.from_sizes.Goals as goal

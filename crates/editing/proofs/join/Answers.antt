@@ -1,5 +1,4 @@
 use native.Mathlib.Omega.{arith}
-use borrow.Author.Rules.{rules}
 use Rattle.editing.proofs.Rows.{prop_row, term_row, rows_joined}
 use Rattle.editing.proofs.join.Goals as goal
 

@@ -1,4 +1,3 @@
-use borrow.Author.Rules.{rules}
 use Rattle.editing.proofs.Rows.{root_moves, root_moved}
 use Rattle.editing.proofs.moved_root.Goals as goal
 

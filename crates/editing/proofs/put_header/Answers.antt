@@ -1,4 +1,3 @@
-use borrow.Author.Rules.{rules}
 use Rattle.editing.proofs.Rows.{header_put}
 use Rattle.editing.proofs.put_header.Goals as goal
 

@@ -1,4 +1,3 @@
-use borrow.Author.Rules.{rules}
 use Rattle.editing.proofs.Rows.{put_at_count}
 use Rattle.editing.proofs.put_term.Goals as goal
 

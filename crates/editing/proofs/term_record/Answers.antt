@@ -1,4 +1,3 @@
-use borrow.Author.Rules.{rules}
 use Rattle.editing.proofs.Rows.{term_at_count}
 use Rattle.editing.proofs.term_record.Goals as goal
 

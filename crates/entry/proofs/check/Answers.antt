@@ -3,7 +3,6 @@ use lib.Seq.{length-take-le}
 use Rattle.rules.specs.State.{limit}
 use Rattle.step.specs.Rooms.{rooms}
 use Rattle.entry.proofs.Marks.{tree_long, goals_long, props_long, work_long, long_true, long_false, firsts_exact, marks_long, marks_short}
-use borrow.Author.Rules.{rules}
 use Rattle.entry.proofs.check.Goals as goal
 
 pub slice_bounds-check_table-end : goal.slice_bounds-check_table-end

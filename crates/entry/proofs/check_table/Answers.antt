@@ -2,7 +2,6 @@ use Rattle.entry.proofs.Runs.{header_there}
 use mathlib.Core.Path.{◌∙◌}
 use Rattle.step.specs.Rooms.{rooms}
 use Rattle.entry.proofs.Marks.{table_refused, table_good, table_marked}
-use borrow.Author.Rules.{rules}
 use Rattle.entry.proofs.check_table.Goals as goal
 
 pub returns-in-Refused : goal.returns-in-Refused

@@ -1,7 +1,6 @@
 use Rattle.entry.specs.Mark.{root_run}
 use Rattle.step.specs.Rooms.{rooms}
 use Rattle.entry.proofs.Marks.{count_fits, rest_fits, finish_refused, finish_accepted}
-use borrow.Author.Rules.{rules}
 use Rattle.entry.proofs.finish.Goals as goal
 
 pub count_of-count-requires-clause-in_bounds : goal.count_of-count-requires-clause-in_bounds

@@ -2,7 +2,6 @@ use mathlib.Core.Path.{◌∙◌}
 use Rattle.step.specs.Rooms.{rooms}
 use native.Mathlib.Omega.{arith}
 use Rattle.entry.proofs.Runs.{loadable, header_there, few_props, goal_there, ready, ran}
-use borrow.Author.Rules.{rules}
 use Rattle.entry.proofs.run.Goals as goal
 
 pub load-requires-clause-counted : goal.load-requires-clause-counted

@@ -4,7 +4,6 @@ use Rattle.entry.specs.Mark.{Marks}
 use Rattle.step.specs.Rooms.{rooms}
 use Rattle.export.specs.Answer.{mark_record}
 use Rattle.export.proofs.Returning.{returns_short, returns_written}
-use borrow.Author.Rules.{rules}
 use Rattle.export.proofs.sporekettle_check.Goals as goal
 
 pub returns-then-answer-lt-ANSWER : goal.returns-then-answer-lt-ANSWER

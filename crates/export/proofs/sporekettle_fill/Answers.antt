@@ -3,7 +3,6 @@ use Rattle.filling.specs.declared.answer.Filled.{Filled}
 use Rattle.filling.specs.Fill.{lent, Fills}
 use Rattle.export.specs.Answer.{filled_record}
 use Rattle.export.proofs.Returning.{returns_short, returns_written}
-use borrow.Author.Rules.{rules}
 use Rattle.export.proofs.sporekettle_fill.Goals as goal
 
 pub returns-then-answer-lt-ANSWER : goal.returns-then-answer-lt-ANSWER

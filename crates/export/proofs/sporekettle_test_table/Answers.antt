@@ -4,7 +4,6 @@ use Rattle.table.specs.declared.Verdict.{Verdict}
 use Rattle.table.specs.Tests.{Tested}
 use Rattle.export.specs.Answer.{verdict_record}
 use Rattle.export.proofs.Returning.{returns_short, returns_written}
-use borrow.Author.Rules.{rules}
 use Rattle.export.proofs.sporekettle_test_table.Goals as goal
 
 pub returns-then-answer-lt-ANSWER : goal.returns-then-answer-lt-ANSWER

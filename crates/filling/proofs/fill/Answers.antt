@@ -3,7 +3,6 @@ use lib.Seq.{length-take-le}
 use Rattle.rules.specs.State.{limit}
 use Rattle.filling.specs.Fill.{lent}
 use Rattle.filling.proofs.Overs.{test_true, test_false, all_lengths, firsts_exact, fills_long, fills_short}
-use borrow.Author.Rules.{rules}
 use Rattle.filling.proofs.fill.Goals as goal
 
 pub slice_bounds-fill_table-end : goal.slice_bounds-fill_table-end

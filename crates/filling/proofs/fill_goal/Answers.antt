@@ -4,7 +4,6 @@ use Rattle.filling.specs.Fill.{lent}
 use Rattle.step.specs.Rooms.{rooms}
 use Rattle.filling.specs.Steps.{ExactAll}
 use Rattle.filling.proofs.Stages.{filling_refused, filling_good, goal_missing, goal_found, hole_at, hole_fillable}
-use borrow.Author.Rules.{rules}
 use Rattle.filling.proofs.fill_goal.Goals as goal
 
 pub returns-in-Refused : goal.returns-in-Refused

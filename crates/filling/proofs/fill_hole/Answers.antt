@@ -1,4 +1,4 @@
-use mathlib.Core.Path.{sym, subst, subst⁻¹, ◌∙◌}
+use mathlib.Core.Path.{sym, subst⁻¹, ◌∙◌}
 use mathlib.Core.List.{◌++◌}
 use Prim.Native.Nat.{◌≤◌}
 use native.Mathlib.Omega.{arith}
@@ -11,7 +11,6 @@ use Rattle.filling.specs.Fill.{lent}
 use Rattle.filling.specs.Steps.{ExactAll}
 use Rattle.filling.proofs.Parts.{room_long, part_fits, part_is, bytes_take}
 use Rattle.filling.proofs.Stages.{edited_refused, edited_run}
-use borrow.Author.Rules.{rules}
 use Rattle.filling.proofs.fill_hole.Goals as goal
 
 pub edited_size-size-requires-clause-counted : goal.edited_size-size-requires-clause-counted

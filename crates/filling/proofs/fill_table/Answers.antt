@@ -4,7 +4,6 @@ use Rattle.step.specs.Rooms.{rooms}
 use Rattle.filling.specs.Fill.{lent}
 use Rattle.filling.specs.Steps.{ExactAll}
 use Rattle.filling.proofs.Stages.{old_refused, old_accepted, old_ran}
-use borrow.Author.Rules.{rules}
 use Rattle.filling.proofs.fill_table.Goals as goal
 
 pub fill_goal-requires-clause-old_ran : goal.fill_goal-requires-clause-old_ran

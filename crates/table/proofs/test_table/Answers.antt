@@ -1,10 +1,8 @@
 use Rattle.table.specs.Tests.{test_room}
-use mathlib.Core.Path.{◌≡◌, sym, ◌∙◌}
+use mathlib.Core.Path.{sym, ◌∙◌}
 use native.Mathlib.Omega.{arith}
-use lib.ListN.{length, take}
 use lib.Seq.{length-take-le}
 use Rattle.table.proofs.Verdicts.{tested_short, tested_long}
-use borrow.Author.Rules.{rules}
 use Rattle.table.proofs.test_table.Goals as goal
 
 pub returns-then-work-lt-ROOM : goal.returns-then-work-lt-ROOM

@@ -1,6 +1,5 @@
 use Rattle.rules.specs.Prop.{bind_at}
 use Rattle.arena.proofs.Copies.{bind_hit, bind_miss}
-use borrow.Author.Rules.{rules}
 use Rattle.arena.proofs.copy.bind_at.Goals as goal
 
 pub returns-in-Free : goal.returns-in-Free

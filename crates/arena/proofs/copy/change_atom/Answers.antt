@@ -1,7 +1,6 @@
 use Rattle.arena.specs.Copy.{changed}
 use Rattle.prop.proofs.Places.{all_changed}
 use Rattle.arena.proofs.Copies.{atom_changed, atom_of_one}
-use borrow.Author.Rules.{rules}
 use Rattle.arena.proofs.copy.change_atom.Goals as goal
 
 pub returns-then-r-le1 : goal.returns-then-r-le1

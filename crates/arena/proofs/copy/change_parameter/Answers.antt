@@ -1,5 +1,4 @@
 use Rattle.arena.proofs.Copies.{changed_put, changed_bind, changed_settled, settle_room}
-use borrow.Author.Rules.{rules}
 use Rattle.arena.proofs.copy.change_parameter.Goals as goal
 
 pub settle-requires : goal.settle-requires

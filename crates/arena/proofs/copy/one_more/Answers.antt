@@ -1,4 +1,3 @@
-use borrow.Author.Rules.{rules}
 use Rattle.arena.proofs.Copies.{one_word}
 use Rattle.arena.proofs.copy.one_more.Goals as goal
 

@@ -1,6 +1,5 @@
 use Rattle.rules.specs.Prop.{put_at}
 use Rattle.arena.proofs.Copies.{put_hit, put_miss}
-use borrow.Author.Rules.{rules}
 use Rattle.arena.proofs.copy.put_at.Goals as goal
 
 pub returns-in-Free : goal.returns-in-Free

@@ -1,6 +1,5 @@
 use Rattle.rules.specs.Context.{settle}
 use Rattle.arena.proofs.Copies.{settle_held, settle_nothing, settle_identifier}
-use borrow.Author.Rules.{rules}
 use Rattle.arena.proofs.copy.settle.Goals as goal
 
 pub returns-in-Held : goal.returns-in-Held

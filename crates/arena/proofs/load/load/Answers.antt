@@ -1,7 +1,6 @@
 use borrow.Author.Rules.{rules}
-use Prim.Native.Nat.{◌-◌}
 use native.Mathlib.Omega.{arith}
-use Rattle.arena.proofs.Loads.{Turn, turn_start, turn_step, turn_end}
+use Rattle.arena.proofs.Loads.{turn_start, turn_step, turn_end}
 use Rattle.arena.proofs.load.load.Goals as goal
 
 pub loop-n-init : goal.loop-n-init

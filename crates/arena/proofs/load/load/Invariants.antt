@@ -1,7 +1,5 @@
-use borrow.Author.Rules.{rules}
 use Prim.Native.Nat.{◌-◌}
-use native.Mathlib.Omega.{arith}
-use Rattle.arena.proofs.Loads.{Turn, turn_start, turn_step, turn_end}
+use Rattle.arena.proofs.Loads.{Turn}
 use Rattle.arena.proofs.load.load.Given as goal
 
 abbrev pub invariant-loop-n : goal.invariant-loop-n

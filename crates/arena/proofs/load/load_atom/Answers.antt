@@ -1,5 +1,4 @@
 use Rattle.prop.proofs.Places.{all_changed}
-use borrow.Author.Rules.{rules}
 use Rattle.arena.proofs.load.load_atom.Goals as goal
 
 pub returns : goal.returns

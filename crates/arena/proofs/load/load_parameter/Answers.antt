@@ -1,6 +1,5 @@
 use Rattle.arena.specs.Load.{named}
 use Rattle.arena.proofs.Loads.{load_free, load_bound}
-use borrow.Author.Rules.{rules}
 use Rattle.arena.proofs.load.load_parameter.Goals as goal
 
 pub returns-in-Free-settle : goal.returns-in-Free-settle

@@ -1,4 +1,3 @@
-use borrow.Author.Rules.{rules}
 use Rattle.arena.proofs.Loads.{record_atom, record_other}
 use Rattle.arena.proofs.load.load_record.Goals as goal
 

@@ -1,4 +1,3 @@
-use borrow.Author.Rules.{rules}
 use mathlib.Core.Path.{◌≡◌}
 use Rattle.layout.specs.File.{prop_kind, constant}
 use Rattle.arena.proofs.Makings.{true_kind, false_kind, leaf_form, leaf_links, made_constant}

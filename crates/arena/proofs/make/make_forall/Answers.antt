@@ -1,4 +1,3 @@
-use borrow.Author.Rules.{rules}
 use mathlib.Core.Path.{refl}
 use Rattle.arena.proofs.Makings.{over_more, none_over, copy_fits, top_fits, top_long, made_forall}
 use Rattle.arena.proofs.make.make_forall.Goals as goal

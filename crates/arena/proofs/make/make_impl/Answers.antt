@@ -1,7 +1,6 @@
 use mathlib.Core.Path.{refl}
 use Rattle.rules.specs.Prop.{imp}
 use Rattle.layout.specs.File.{prop_kind, prop_kinds}
-use borrow.Author.Rules.{rules}
 use Rattle.arena.proofs.make.make_impl.Goals as goal
 
 pub returns : goal.returns

@@ -1,4 +1,3 @@
-use borrow.Author.Rules.{rules}
 use Rattle.arena.proofs.Makings.{joint_form, joint_links, made_link}
 use Rattle.arena.proofs.make.make_link.Goals as goal
 

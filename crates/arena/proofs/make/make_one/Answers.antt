@@ -1,4 +1,3 @@
-use borrow.Author.Rules.{rules}
 use Rattle.arena.proofs.Makings.{made_one}
 use Rattle.arena.proofs.make.make_one.Goals as goal
 

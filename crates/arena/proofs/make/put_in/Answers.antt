@@ -1,4 +1,3 @@
-use borrow.Author.Rules.{rules}
 use mathlib.Core.Path.{refl}
 use Rattle.arena.proofs.Makings.{over_all, copy_fits, made_put}
 use Rattle.arena.proofs.make.put_in.Goals as goal

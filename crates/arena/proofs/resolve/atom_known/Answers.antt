@@ -1,5 +1,4 @@
 use Rattle.prop.proofs.Places.{all_pass}
-use borrow.Author.Rules.{rules}
 use Rattle.arena.proofs.resolve.atom_known.Goals as goal
 
 pub returns : goal.returns

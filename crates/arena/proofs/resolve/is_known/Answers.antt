@@ -1,5 +1,4 @@
 use Rattle.arena.proofs.Resolves.{known_held, known_nothing, known_identifier, known_bound}
-use borrow.Author.Rules.{rules}
 use Rattle.arena.proofs.resolve.is_known.Goals as goal
 
 pub returns-in-Held : goal.returns-in-Held

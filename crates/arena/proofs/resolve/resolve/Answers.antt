@@ -1,4 +1,3 @@
-use borrow.Author.Rules.{rules}
 use Rattle.prop.proofs.Alike.{type_in}
 use Rattle.arena.proofs.Resolves.{same_datatype, name_unknown, too_many, deep_fits, copy_fits, name_known}
 use Rattle.arena.proofs.resolve.resolve.Goals as goal

@@ -1,4 +1,3 @@
-use borrow.Author.Rules.{rules}
 use Rattle.context.proofs.Laws.{entry_read}
 use Rattle.context.proofs.identifier_context.entry_at.Goals as goal
 

@@ -1,7 +1,6 @@
 use borrow.Author.Rules.{rules}
 use mathlib.Core.Path.{refl}
-use Prim.Native.Nat.{◌≤◌}
-use Rattle.context.proofs.Laws.{Decides, decides_past, latest_here, latest_none}
+use Rattle.context.proofs.Laws.{decides_past, latest_here, latest_none}
 use Rattle.context.proofs.identifier_context.get_by_name.Goals as goal
 
 pub loop-i-init : goal.loop-i-init

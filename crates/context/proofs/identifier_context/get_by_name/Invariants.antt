@@ -1,7 +1,5 @@
-use borrow.Author.Rules.{rules}
-use mathlib.Core.Path.{refl}
 use Prim.Native.Nat.{◌≤◌}
-use Rattle.context.proofs.Laws.{Decides, decides_past, latest_here, latest_none}
+use Rattle.context.proofs.Laws.{Decides}
 use Rattle.context.proofs.identifier_context.get_by_name.Given as goal
 
 abbrev pub invariant-loop-i : goal.invariant-loop-i

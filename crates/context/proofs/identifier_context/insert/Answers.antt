@@ -1,4 +1,3 @@
-use borrow.Author.Rules.{rules}
 use native.Mathlib.Omega.{arith}
 use Rattle.context.proofs.Laws.{inserted}
 use Rattle.context.proofs.identifier_context.insert.Goals as goal

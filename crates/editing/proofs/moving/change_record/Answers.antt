@@ -1,4 +1,3 @@
-use borrow.Author.Rules.{rules}
 use Rattle.editing.proofs.Fields.{prop_told, term_told, stays, prop_changed, term_changed}
 use Rattle.editing.proofs.moving.change_record.Goals as goal
 

@@ -1,4 +1,3 @@
-use borrow.Author.Rules.{rules}
 use Rattle.editing.proofs.Fields.{left_moves, right_moves, body_moves, prop_moved}
 use Rattle.editing.proofs.moving.move_prop.Goals as goal
 

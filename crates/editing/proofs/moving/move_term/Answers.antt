@@ -1,4 +1,3 @@
-use borrow.Author.Rules.{rules}
 use Rattle.editing.proofs.Fields.{type_moves, first_moves, second_moves, third_moves, term_moved}
 use Rattle.editing.proofs.moving.move_term.Goals as goal
 

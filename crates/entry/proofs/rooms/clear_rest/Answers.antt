@@ -1,5 +1,4 @@
 use Rattle.rules.specs.State.{limit}
-use borrow.Author.Rules.{rules}
 use Rattle.entry.proofs.rooms.clear_rest.Goals as goal
 
 pub trim-requires-3 : goal.trim-requires-3

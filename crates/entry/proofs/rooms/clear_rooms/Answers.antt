@@ -1,5 +1,4 @@
 use Rattle.rules.specs.State.{limit}
-use borrow.Author.Rules.{rules}
 use Rattle.entry.proofs.rooms.clear_rooms.Goals as goal
 
 pub returns : goal.returns

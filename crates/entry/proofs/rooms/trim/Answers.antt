@@ -1,6 +1,5 @@
 use mathlib.Core.Path.{refl}
 use Rattle.entry.proofs.Rests.{trimmed}
-use borrow.Author.Rules.{rules}
 use Rattle.entry.proofs.rooms.trim.Goals as goal
 
 pub returns : goal.returns

@@ -1,6 +1,5 @@
 use mathlib.Core.Path.{sym, ap, ◌∙◌}
 use Rattle.export.specs.Answer.{filled_record, refused_record}
-use borrow.Author.Rules.{rules}
 use Rattle.export.proofs.answer.of_filled.Goals as goal
 
 pub returns-in-Accepted : goal.returns-in-Accepted

@@ -1,5 +1,4 @@
 use Rattle.export.specs.Answer.{mark_record}
-use borrow.Author.Rules.{rules}
 use Rattle.export.proofs.answer.of_mark.Goals as goal
 
 pub returns-in-Accepted : goal.returns-in-Accepted

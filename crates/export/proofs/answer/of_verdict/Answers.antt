@@ -1,6 +1,5 @@
 use mathlib.Core.Path.{sym, ap, ◌∙◌}
 use Rattle.export.specs.Answer.{verdict_record}
-use borrow.Author.Rules.{rules}
 use Rattle.export.proofs.answer.of_verdict.Goals as goal
 
 pub returns-in-Passes : goal.returns-in-Passes

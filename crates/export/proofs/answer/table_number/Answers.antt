@@ -1,5 +1,4 @@
 use Rattle.export.specs.Answer.{table_number}
-use borrow.Author.Rules.{rules}
 use Rattle.export.proofs.answer.table_number.Goals as goal
 
 pub returns-in-Old : goal.returns-in-Old

@@ -4,7 +4,6 @@ use Rattle.step.specs.Rooms.{rooms}
 use Rattle.filling.proofs.Reaching.{goal_same, loadable, term_inside, old_inside, waiting, waiting_inside, table_back, wants, ready_waiting, few_pictured, reached}
 use Rattle.rules.specs.Tree.{Gap}
 use Rattle.entry.specs.Ran.{Exact}
-use borrow.Author.Rules.{rules}
 use Rattle.filling.proofs.reach.reach.Goals as goal
 
 pub load-requires-clause-counted : goal.load-requires-clause-counted

@@ -5,7 +5,6 @@ use lib.Seq.{length-take-le}
 use Rattle.step.specs.Rooms.{rooms}
 use Rattle.filling.specs.Fill.{lent}
 use Rattle.filling.proofs.Finishing.{within, rest_room, run_refused, run_accepted}
-use borrow.Author.Rules.{rules}
 use Rattle.filling.proofs.run.finish.Goals as goal
 
 pub slice_bounds-count_of-end-in-Has : goal.slice_bounds-count_of-end-in-Has

@@ -10,7 +10,6 @@ use Rattle.filling.specs.Fill.{lent}
 use Rattle.filling.proofs.Parts.{room_same}
 use Rattle.entry.specs.Ran.{Exact}
 use Rattle.filling.specs.Steps.{ExactAll}
-use borrow.Author.Rules.{rules}
 use Rattle.filling.proofs.run.run_filling.Goals as goal
 
 pub slice_bounds-reach-end-2 : goal.slice_bounds-reach-end-2

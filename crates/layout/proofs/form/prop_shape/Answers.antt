@@ -1,9 +1,8 @@
 use native.Mathlib.Omega.{arith}
 use mathlib.Core.Path.{ap, sym, ◌∙◌}
-use Rattle.layout.proofs.Strange.{strange_prop, past}
+use Rattle.layout.proofs.Strange.{strange_prop}
 use Rattle.layout.specs.Form.{prop_shape}
 use Rattle.layout.specs.File.{prop_kind, prop_kinds}
-use borrow.Author.Rules.{rules}
 use Rattle.layout.proofs.form.prop_shape.Goals as goal
 
 pub returns-in-0 : goal.returns-in-0

@@ -1,9 +1,8 @@
 use native.Mathlib.Omega.{arith}
 use mathlib.Core.Path.{ap, sym, ◌∙◌}
-use Rattle.layout.proofs.Strange.{strange_term, past}
+use Rattle.layout.proofs.Strange.{strange_term}
 use Rattle.layout.specs.Form.{term_shape}
 use Rattle.layout.specs.File.{kind_of, kinds}
-use borrow.Author.Rules.{rules}
 use Rattle.layout.proofs.form.term_shape.Goals as goal
 
 pub returns-in-0 : goal.returns-in-0

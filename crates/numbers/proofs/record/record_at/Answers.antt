@@ -1,4 +1,3 @@
-use borrow.Author.Rules.{rules}
 use Rattle.numbers.specs.Records.{record_at}
 use Rattle.numbers.proofs.record.record_at.Goals as goal
 

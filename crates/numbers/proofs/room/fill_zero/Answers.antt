@@ -1,8 +1,7 @@
-use borrow.Author.Rules.{rules}
 use borrow.Author.Fill.{fill_none, fill_more}
 use mathlib.Core.Path.{◌≡◌, ap, ◌∙◌}
-use mathlib.Core.List.{List, ◌++◌}
-use Prim.Native.Nat.{ℕ, ◌≤◌, ◌-◌}
+use mathlib.Core.List.{List}
+use Prim.Native.Nat.{ℕ}
 use native.Mathlib.Omega.{arith}
 use lib.ListN.{length, set, drop, replicate}
 use Rattle.numbers.proofs.Rooms.{filled}

@@ -1,5 +1,4 @@
 use Rattle.prop.proofs.Occurs.{holds_at_place}
-use borrow.Author.Rules.{rules}
 use Rattle.prop.proofs.atom.is_at.Goals as goal
 
 pub returns : goal.returns

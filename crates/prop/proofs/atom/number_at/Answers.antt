@@ -1,5 +1,4 @@
 use Rattle.prop.proofs.Places.{number_at_3}
-use borrow.Author.Rules.{rules}
 use Rattle.prop.proofs.atom.number_at.Goals as goal
 
 pub returns-in_default : goal.returns-in_default

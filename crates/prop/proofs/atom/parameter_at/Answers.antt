@@ -1,5 +1,4 @@
 use Rattle.prop.proofs.Places.{at_unused, at_free, at_identifier, at_bound}
-use borrow.Author.Rules.{rules}
 use Rattle.prop.proofs.atom.parameter_at.Goals as goal
 
 pub returns-then-r-i : goal.returns-then-r-i

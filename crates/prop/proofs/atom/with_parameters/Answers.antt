@@ -1,5 +1,4 @@
 use Rattle.prop.proofs.Places.{writes}
-use borrow.Author.Rules.{rules}
 use Rattle.prop.proofs.atom.with_parameters.Goals as goal
 
 pub returns : goal.returns

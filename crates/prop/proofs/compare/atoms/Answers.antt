@@ -1,5 +1,4 @@
 use Rattle.prop.proofs.Alike.{atoms_yes, atoms_no}
-use borrow.Author.Rules.{rules}
 use Rattle.prop.proofs.compare.atoms.Goals as goal
 
 pub returns-then-r-s : goal.returns-then-r-s

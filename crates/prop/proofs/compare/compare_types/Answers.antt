@@ -1,5 +1,4 @@
 use Rattle.prop.proofs.Alike.{type_in, types_props, types_left, types_right, types_same, types_apart}
-use borrow.Author.Rules.{rules}
 use Rattle.prop.proofs.compare.compare_types.Goals as goal
 
 pub compare-requires-clause-a_lt_count : goal.compare-requires-clause-a_lt_count

@@ -1,5 +1,4 @@
 use Rattle.prop.proofs.Heads.{prop_in, truth_prop, truth_data}
-use borrow.Author.Rules.{rules}
 use Rattle.prop.proofs.head.is_truth.Goals as goal
 
 pub returns-in_default : goal.returns-in_default

@@ -1,5 +1,4 @@
 use Rattle.layout.specs.File.{prop_kind, prop_kinds}
-use borrow.Author.Rules.{rules}
 use Rattle.prop.proofs.head.link_kind.Goals as goal
 
 pub returns-in-And : goal.returns-in-And

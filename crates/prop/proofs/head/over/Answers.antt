@@ -1,5 +1,4 @@
 use Rattle.prop.proofs.Heads.{prop_in, over_one, over_other, over_data}
-use borrow.Author.Rules.{rules}
 use Rattle.prop.proofs.head.over.Goals as goal
 
 pub returns-in_default : goal.returns-in_default

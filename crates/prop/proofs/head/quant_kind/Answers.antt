@@ -1,5 +1,4 @@
 use Rattle.layout.specs.File.{prop_kind, prop_kinds}
-use borrow.Author.Rules.{rules}
 use Rattle.prop.proofs.head.quant_kind.Goals as goal
 
 pub returns-in-All : goal.returns-in-All

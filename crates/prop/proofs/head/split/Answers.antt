@@ -1,5 +1,4 @@
 use Rattle.prop.proofs.Heads.{prop_in, split_both, split_other, split_data}
-use borrow.Author.Rules.{rules}
 use Rattle.prop.proofs.head.split.Goals as goal
 
 pub returns-in_default : goal.returns-in_default

@@ -1,7 +1,6 @@
 use borrow.Author.Rules.{rules}
 use Rattle.prop.proofs.Occurs.{holds_constant, holds_first, holds_second, holds_quant, holds_atom}
 use Rattle.prop.proofs.Views.{first_below, first_in, second_below, second_in, body_below, body_in}
-use Prim.Native.Nat.{ℕ, ◌<◌}
 use Rattle.prop.proofs.holds.+holds.Goals as goal
 
 pub holds-requires : goal.holds-requires

@@ -1,5 +1,4 @@
 use Rattle.prop.proofs.Occurs.{holds_in_one}
-use borrow.Author.Rules.{rules}
 use Rattle.prop.proofs.holds.atom_holds.Goals as goal
 
 pub returns : goal.returns

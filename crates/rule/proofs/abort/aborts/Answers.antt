@@ -1,5 +1,4 @@
 use Rattle.rule.proofs.Aborts.{aborts_data, aborts_by}
-use borrow.Author.Rules.{rules}
 use Rattle.rule.proofs.abort.aborts.Goals as goal
 
 pub returns-in_default : goal.returns-in_default

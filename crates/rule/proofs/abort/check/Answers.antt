@@ -2,7 +2,6 @@ use Rattle.rule.proofs.Aborts.{abort_full, abort_begins}
 use Rattle.rule.proofs.Going.{asking}
 use Rattle.step.proofs.Moves.{loaded_arena, loaded_left, made_more, made_few}
 use native.Mathlib.Omega.{arith}
-use borrow.Author.Rules.{rules}
 use Rattle.rule.proofs.abort.check.Goals as goal
 
 pub make_constant-requires-clause-arena : goal.make_constant-requires-clause-arena

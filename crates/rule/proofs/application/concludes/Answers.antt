@@ -1,5 +1,4 @@
 use Rattle.rule.proofs.Applications.{concludes_by}
-use borrow.Author.Rules.{rules}
 use Rattle.rule.proofs.application.concludes.Goals as goal
 
 pub returns : goal.returns

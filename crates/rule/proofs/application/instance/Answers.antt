@@ -2,7 +2,6 @@ use Rattle.rule.proofs.Applications.{instance_full, instance_made}
 use Rattle.step.proofs.Moves.{loaded_arena, loaded_left, put_more, put_few}
 use mathlib.Core.Path.{subst⁻¹}
 use Prim.Native.Nat.{ℕ, ◌<◌}
-use borrow.Author.Rules.{rules}
 use Rattle.rule.proofs.application.instance.Goals as goal
 
 pub put_in-requires-clause-arena : goal.put_in-requires-clause-arena

@@ -1,12 +1,11 @@
 use Rattle.rule.proofs.Applications.{object_other, object_refused, object_asks}
 use Rattle.rule.proofs.Going.{asking}
 use Rattle.step.proofs.Moves.{loaded_arena, loaded_type}
-use mathlib.Core.Path.{refl, subst, subst⁻¹}
+use mathlib.Core.Path.{refl, subst⁻¹}
 use native.Mathlib.Omega.{arith}
 use Rattle.layout.specs.declared.record.TermRecord.{TermRecord}
 use Rattle.layout.specs.File.{terms}
 use Prim.Native.Nat.{◌<◌}
-use borrow.Author.Rules.{rules}
 use Rattle.rule.proofs.application.object.Goals as goal
 
 pub over-requires-clause-arena : goal.over-requires-clause-arena

@@ -1,7 +1,6 @@
 use Rattle.rule.proofs.Applications.{application_begins}
 use Rattle.rule.proofs.Going.{asking}
 use native.Mathlib.Omega.{arith}
-use borrow.Author.Rules.{rules}
 use Rattle.rule.proofs.application.synthesize.Goals as goal
 
 pub returns : goal.returns

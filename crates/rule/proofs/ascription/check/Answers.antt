@@ -1,6 +1,5 @@
 use Rattle.rule.proofs.Ascriptions.{as_given, as_place, as_alone, as_resolve, held_unresolved, held_base, held_compare, held_ready, held_type, held_apart, held_done}
 use Rattle.step.proofs.Bounds.{base_header, base_count}
-use borrow.Author.Rules.{rules}
 use Rattle.rule.proofs.ascription.check.Goals as goal
 
 pub term_record-r-requires-clause-counted : goal.term_record-r-requires-clause-counted

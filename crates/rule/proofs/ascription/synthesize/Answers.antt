@@ -1,5 +1,4 @@
 use Rattle.rule.proofs.Ascriptions.{as_given, as_place, as_alone, as_resolve, found_unresolved, found_ready, found_type, found_done}
-use borrow.Author.Rules.{rules}
 use Rattle.rule.proofs.ascription.synthesize.Goals as goal
 
 pub term_record-r-requires-clause-counted : goal.term_record-r-requires-clause-counted

@@ -1,6 +1,5 @@
 use Rattle.rule.proofs.Cases.{arms_alike, arms_wanted}
 use Rattle.step.proofs.Moves.{loaded_arena, loaded_type}
-use borrow.Author.Rules.{rules}
 use Rattle.rule.proofs.case.arms_agree.Goals as goal
 
 pub compare_types-requires-clause-arena : goal.compare_types-requires-clause-arena

@@ -1,7 +1,6 @@
 use mathlib.Core.Path.{ap}
 use mathlib.Core.Bool.{not}
 use Rattle.rule.proofs.Cases.{case_apart, case_data, case_done}
-use borrow.Author.Rules.{rules}
 use Rattle.rule.proofs.case.end.Goals as goal
 
 pub arms_agree-requires-clause-table : goal.arms_agree-requires-clause-table

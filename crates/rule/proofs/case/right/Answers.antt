@@ -2,7 +2,6 @@ use Rattle.rule.proofs.Cases.{right_asks}
 use Rattle.rule.proofs.Going.{asking}
 use mathlib.Core.Path.{refl}
 use native.Mathlib.Omega.{arith}
-use borrow.Author.Rules.{rules}
 use Rattle.rule.proofs.case.right.Goals as goal
 
 pub returns : goal.returns

@@ -1,9 +1,8 @@
 use native.Mathlib.Omega.{arith}
 use mathlib.Core.Logic.{inl, inr}
-use Rattle.rule.proofs.Dispatch.{kind_is, kind_between, past_six, kind_other}
+use Rattle.rule.proofs.Dispatch.{kind_is, kind_between, kind_other}
 use Rattle.step.proofs.Bounds.{ready_inner, ready_work, ready_tree, ready_goals, ready_goal, ready_context}
 use mathlib.Core.Path.{refl}
-use borrow.Author.Rules.{rules}
 use Rattle.rule.proofs.check.begin.Goals as goal
 use Rattle.rule.proofs.check.begin.Goals.{in_default-via-then-kind-lt6, in_default-via-else-kind-lt6+else-kind-lt9}
 

@@ -1,6 +1,5 @@
 use mathlib.Core.Path.{sym}
 use Rattle.rule.proofs.Settles.{kind_compares, begun_synth, begun_so}
-use borrow.Author.Rules.{rules}
 use Rattle.rule.proofs.check.begun_as.Goals as goal
 
 pub returns-then-compares : goal.returns-then-compares

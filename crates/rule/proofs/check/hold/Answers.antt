@@ -1,7 +1,6 @@
 use Rattle.rule.proofs.Settles.{settle_base, settle_type, settle_wanted, settle_apart, settle_equal, settle_order, settle_shift, settle_inner, settle_put, settle_alpha}
 use Rattle.step.proofs.Bounds.{base_header, base_count}
 use Rattle.step.proofs.Moves.{loaded_arena, loaded_type}
-use borrow.Author.Rules.{rules}
 use Rattle.rule.proofs.check.hold.Goals as goal
 
 pub count_of-requires-clause-in_bounds : goal.count_of-requires-clause-in_bounds

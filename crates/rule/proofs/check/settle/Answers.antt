@@ -1,5 +1,4 @@
 use Rattle.rule.proofs.Settles.{kind_compares, ended_synth, ended_so, ended_check, ended_checked}
-use borrow.Author.Rules.{rules}
 use Rattle.rule.proofs.check.settle.Goals as goal
 
 pub returns-in_default : goal.returns-in_default

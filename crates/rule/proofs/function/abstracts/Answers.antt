@@ -2,7 +2,6 @@ use Rattle.rule.proofs.Functions.{abstracts_data, abstracts_full, abstracts_to}
 use mathlib.Core.Path.{subst}
 use Rattle.prop.specs.Room.{TypeIn}
 use Rattle.step.specs.Rooms.{count_of}
-use borrow.Author.Rules.{rules}
 use Rattle.rule.proofs.function.abstracts.Goals as goal
 
 pub returns-in_default : goal.returns-in_default

@@ -3,7 +3,6 @@ use Rattle.rule.proofs.Going.{asking}
 use mathlib.Core.Path.{refl}
 use Rattle.step.proofs.Bounds.{ready_inner}
 use native.Mathlib.Omega.{arith}
-use borrow.Author.Rules.{rules}
 use Rattle.rule.proofs.function.check.Goals as goal
 
 pub term_record-r-requires-clause-counted : goal.term_record-r-requires-clause-counted

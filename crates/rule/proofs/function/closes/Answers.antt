@@ -1,5 +1,4 @@
 use Rattle.rule.proofs.Functions.{closes_by}
-use borrow.Author.Rules.{rules}
 use Rattle.rule.proofs.function.closes.Goals as goal
 
 pub returns : goal.returns

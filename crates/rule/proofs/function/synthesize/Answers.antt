@@ -2,7 +2,6 @@ use Rattle.rule.proofs.Functions.{function_resolves, function_bare, function_unr
 use Rattle.rule.proofs.Going.{asking}
 use native.Mathlib.Omega.{arith}
 use mathlib.Core.Path.{refl}
-use borrow.Author.Rules.{rules}
 use Rattle.rule.proofs.function.synthesize.Goals as goal
 
 pub term_record-r-requires-clause-counted : goal.term_record-r-requires-clause-counted

@@ -1,5 +1,4 @@
 use Rattle.rule.proofs.Leaves.{ident_unknown, ident_has}
-use borrow.Author.Rules.{rules}
 use Rattle.rule.proofs.ident.synthesize.Goals as goal
 
 pub returns-in_default : goal.returns-in_default

@@ -1,7 +1,6 @@
 use Rattle.rule.proofs.Lets.{let_begins}
 use Rattle.rule.proofs.Going.{asking}
 use native.Mathlib.Omega.{arith}
-use borrow.Author.Rules.{rules}
 use Rattle.rule.proofs.let_in.begin.Goals as goal
 
 pub returns : goal.returns

@@ -2,7 +2,6 @@ use Rattle.rule.proofs.Lets.{let_refused, let_asks}
 use Rattle.rule.proofs.Going.{asking}
 use mathlib.Core.Path.{refl}
 use native.Mathlib.Omega.{arith}
-use borrow.Author.Rules.{rules}
 use Rattle.rule.proofs.let_in.body.Goals as goal
 
 pub open_let-requires-clause-counted : goal.open_let-requires-clause-counted

@@ -1,5 +1,4 @@
 use Rattle.rule.proofs.Lets.{let_kept, let_done}
-use borrow.Author.Rules.{rules}
 use Rattle.rule.proofs.let_in.end.Goals as goal
 
 pub close_let-requires-clause-counted : goal.close_let-requires-clause-counted

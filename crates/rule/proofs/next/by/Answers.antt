@@ -3,7 +3,6 @@ use mathlib.Core.Path.{ap, sym, ◌∙◌}
 use mathlib.Core.List.{[]}
 use Rattle.numbers.specs.Limits.{none}
 use Rattle.step.specs.Trees.{node_rec}
-use borrow.Author.Rules.{rules}
 use Rattle.rule.proofs.next.by.Goals as goal
 
 pub returns : goal.returns

@@ -3,7 +3,6 @@ use Rattle.rule.proofs.Going.{asking}
 use Rattle.step.proofs.Moves.{loaded_arena, loaded_type}
 use native.Mathlib.Omega.{arith}
 use borrow.Author.Tests.{eq-eqb, ne_eqb}
-use borrow.Author.Rules.{rules}
 use Rattle.rule.proofs.or.check.Goals as goal
 
 pub split-requires-clause-arena : goal.split-requires-clause-arena

@@ -5,7 +5,6 @@ use Rattle.prop.specs.Room.{TypeIn}
 use Rattle.step.specs.Rooms.{count_of}
 use mathlib.Core.Path.{sym}
 use Prim.Native.Nat.{ℕ, ◌<◌}
-use borrow.Author.Rules.{rules}
 use Rattle.rule.proofs.pair.both.Goals as goal
 
 pub returns-in_default : goal.returns-in_default

@@ -5,7 +5,6 @@ use mathlib.Core.Path.{subst}
 use native.Mathlib.Omega.{arith}
 use Rattle.rules.specs.Prop.{and}
 use Rattle.prop.specs.Head.{SplitAs}
-use borrow.Author.Rules.{rules}
 use Rattle.rule.proofs.pair.check.Goals as goal
 
 pub split-requires-clause-arena : goal.split-requires-clause-arena

@@ -11,7 +11,6 @@ use Rattle.rules.specs.Prop.{ex}
 use mathlib.Core.Path.{subst, subst⁻¹}
 use native.Mathlib.Omega.{arith}
 use Prim.Native.Nat.{◌<◌}
-use borrow.Author.Rules.{rules}
 use Rattle.rule.proofs.pair.exists.Goals as goal
 
 pub over-requires-clause-arena : goal.over-requires-clause-arena

@@ -1,7 +1,6 @@
 use Rattle.rule.proofs.Projections.{part_other, part_first, part_second}
 use Rattle.step.proofs.Moves.{loaded_arena, loaded_type}
 use borrow.Author.Tests.{eq-eqb, ne_eqb}
-use borrow.Author.Rules.{rules}
 use Rattle.rule.proofs.projection.part.Goals as goal
 
 pub split-requires-clause-arena : goal.split-requires-clause-arena

@@ -1,7 +1,6 @@
 use Rattle.rule.proofs.Projections.{projection_begins}
 use Rattle.rule.proofs.Going.{asking}
 use native.Mathlib.Omega.{arith}
-use borrow.Author.Rules.{rules}
 use Rattle.rule.proofs.projection.synthesize.Goals as goal
 
 pub returns : goal.returns

@@ -5,7 +5,6 @@ use Rattle.rule.specs.declared.next.Rest.{Rest}
 use Rattle.layout.specs.File.{term_record}
 use Rattle.step.specs.Rooms.{count_of}
 use mathlib.Core.Path.{subst}
-use borrow.Author.Rules.{rules}
 use Rattle.rule.proofs.resume.resume.Goals as goal
 
 pub by-requires : goal.by-requires

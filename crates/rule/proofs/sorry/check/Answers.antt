@@ -3,7 +3,6 @@ use mathlib.Core.Path.{ap}
 use Rattle.step.specs.declared.state.State.{State}
 use Prim.Native.Nat.{◌+◌}
 use native.Mathlib.Omega.{arith}
-use borrow.Author.Rules.{rules}
 use Rattle.rule.proofs.sorry.check.Goals as goal
 
 pub picture-requires : goal.picture-requires

@@ -1,8 +1,7 @@
 use native.Mathlib.Omega.{arith}
-use Rattle.rule.proofs.Dispatch.{kind_is, kind_between, past_one, past_six₂, past_twelve, inject_not, abort_not, sorry_not}
+use Rattle.rule.proofs.Dispatch.{kind_is, kind_between, inject_not, abort_not, sorry_not}
 use Rattle.step.proofs.Bounds.{ready_inner, ready_work, ready_tree}
 use mathlib.Core.Path.{refl}
-use borrow.Author.Rules.{rules}
 use Rattle.rule.proofs.synthesize.begin.Goals as goal
 
 pub term_record-r-requires-clause-counted : goal.term_record-r-requires-clause-counted

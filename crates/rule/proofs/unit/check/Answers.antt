@@ -1,6 +1,5 @@
 use Rattle.rule.proofs.Leaves.{unit_fits, unit_other}
 use Rattle.step.proofs.Moves.{loaded_arena, loaded_type}
-use borrow.Author.Rules.{rules}
 use Rattle.rule.proofs.unit.check.Goals as goal
 
 pub is_truth-requires-clause-arena : goal.is_truth-requires-clause-arena

@@ -1,7 +1,6 @@
 use Rattle.rule.proofs.Leaves.{true_full, true_has}
 use Rattle.step.proofs.Moves.{loaded_arena, loaded_left, made_more, made_few}
 use native.Mathlib.Omega.{arith}
-use borrow.Author.Rules.{rules}
 use Rattle.rule.proofs.unit.synthesize.Goals as goal
 
 pub make_constant-requires-clause-arena : goal.make_constant-requires-clause-arena

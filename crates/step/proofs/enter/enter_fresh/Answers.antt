@@ -1,5 +1,4 @@
 use Rattle.step.proofs.Typings.{fresh_room, fresh_few, fresh_state, fresh_inserted}
-use borrow.Author.Rules.{rules}
 use Rattle.step.proofs.enter.enter_fresh.Goals as goal
 
 pub enter-requires-clause-context_in_bounds : goal.enter-requires-clause-context_in_bounds

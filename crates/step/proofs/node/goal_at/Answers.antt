@@ -1,5 +1,4 @@
 use Rattle.step.proofs.Leaves.{goal_is}
-use borrow.Author.Rules.{rules}
 use Rattle.step.proofs.node.goal_at.Goals as goal
 
 pub returns : goal.returns

@@ -1,5 +1,4 @@
 use Rattle.step.proofs.Leaves.{goal_prop, goal_data}
-use borrow.Author.Rules.{rules}
 use Rattle.step.proofs.node.goal_of.Goals as goal
 
 pub returns-in-Proposition : goal.returns-in-Proposition

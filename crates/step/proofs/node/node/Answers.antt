@@ -1,5 +1,4 @@
 use Rattle.step.proofs.Leaves.{node_prop, node_data}
-use borrow.Author.Rules.{rules}
 use Rattle.step.proofs.node.node.Goals as goal
 
 pub returns-in-Proposition : goal.returns-in-Proposition

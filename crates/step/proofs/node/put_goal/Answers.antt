@@ -1,5 +1,4 @@
 use Rattle.step.proofs.Leaves.{goal_put}
-use borrow.Author.Rules.{rules}
 use Rattle.step.proofs.node.put_goal.Goals as goal
 
 pub returns : goal.returns

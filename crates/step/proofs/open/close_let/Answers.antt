@@ -1,7 +1,6 @@
 use Rattle.step.proofs.Moves.{loaded_arena, loaded_type}
 use Rattle.prop.proofs.Heads.{prop_in}
 use Rattle.step.proofs.Openings.{close_data, close_holds, close_shut}
-use borrow.Author.Rules.{rules}
 use Rattle.step.proofs.open.close_let.Goals as goal
 
 pub returns-in_default : goal.returns-in_default

@@ -1,5 +1,4 @@
 use Rattle.step.proofs.Objects.{object_none, object_unknown, object_known}
-use borrow.Author.Rules.{rules}
 use Rattle.step.proofs.open.object_of.Goals as goal
 
 pub returns-then-r-ne0 : goal.returns-then-r-ne0

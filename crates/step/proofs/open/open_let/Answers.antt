@@ -1,6 +1,5 @@
 use Rattle.step.proofs.Moves.{loaded_arena, loaded_type, loaded_left}
 use Rattle.step.proofs.Objects.{let_other, let_body, let_full, let_grown, let_room_1, let_room_2, let_entered}
-use borrow.Author.Rules.{rules}
 use Rattle.step.proofs.open.open_let.Goals as goal
 
 pub over-requires-clause-arena : goal.over-requires-clause-arena

@@ -1,6 +1,4 @@
 use borrow.Author.Rules.{rules}
-use Prim.Native.Nat.{◌-◌, ◌≤◌}
-use Rattle.step.specs.Picture.{Copied}
 use Rattle.step.proofs.Taking.{copied_none, copied_read, copied_write, copied_more, copied_done}
 use Rattle.step.proofs.picture.copy_entries.Goals as goal
 

@@ -1,7 +1,5 @@
-use borrow.Author.Rules.{rules}
 use Prim.Native.Nat.{◌-◌, ◌≤◌}
 use Rattle.step.specs.Picture.{Copied}
-use Rattle.step.proofs.Taking.{copied_none, copied_read, copied_write, copied_more, copied_done}
 use Rattle.step.proofs.picture.copy_entries.Given as goal
 
 abbrev pub invariant-loop-i : goal.invariant-loop-i

@@ -1,5 +1,4 @@
 use Rattle.step.proofs.Taking.{pictured_taken, pictured_kept}
-use borrow.Author.Rules.{rules}
 use Rattle.step.proofs.picture.picture.Goals as goal
 
 pub returns-then-st : goal.returns-then-st

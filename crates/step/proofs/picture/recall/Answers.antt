@@ -1,5 +1,4 @@
 use Rattle.step.proofs.Taking.{copy_back, recalls_type, recalls_state, recalls_few, recalls_entries}
-use borrow.Author.Rules.{rules}
 use Rattle.step.proofs.picture.recall.Goals as goal
 
 pub copy_entries-requires : goal.copy_entries-requires

@@ -1,6 +1,5 @@
 use mathlib.Core.Path.{◌∙◌}
 use Rattle.step.proofs.Taking.{copy_there, takes}
-use borrow.Author.Rules.{rules}
 use Rattle.step.proofs.picture.take.Goals as goal
 
 pub copy_entries-requires : goal.copy_entries-requires

@@ -1,5 +1,4 @@
-use borrow.Author.Rules.{rules}
-use Rattle.step.proofs.Leaves.{Moving, moving_none, moving_read, moving_write, moving_more, moving_done}
+use Rattle.step.proofs.Leaves.{moving_none, moving_read, moving_write, moving_more, moving_done}
 use Rattle.step.proofs.shift.shift.Goals as goal
 
 pub loop-i-init : goal.loop-i-init

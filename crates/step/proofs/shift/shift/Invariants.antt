@@ -1,5 +1,4 @@
-use borrow.Author.Rules.{rules}
-use Rattle.step.proofs.Leaves.{Moving, moving_none, moving_read, moving_write, moving_more, moving_done}
+use Rattle.step.proofs.Leaves.{Moving}
 use Rattle.step.proofs.shift.shift.Given as goal
 
 abbrev pub invariant-loop-i : goal.invariant-loop-i

@@ -1,5 +1,4 @@
 use Rattle.step.proofs.Leaves.{term_is}
-use borrow.Author.Rules.{rules}
 use Rattle.step.proofs.state.term_record.Goals as goal
 
 pub returns : goal.returns

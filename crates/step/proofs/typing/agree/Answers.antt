@@ -1,5 +1,4 @@
 use Rattle.step.proofs.Typings.{agree_type, agree_missing, agree_refused, agree_counts, agree_arena, agree_resolved, agree_expected, agree_on, agree_apart}
-use borrow.Author.Rules.{rules}
 use Rattle.step.proofs.typing.agree.Goals as goal
 
 pub returns-in_default : goal.returns-in_default

@@ -1,6 +1,5 @@
 use native.Mathlib.Omega.{arith}
 use Rattle.step.proofs.Typings.{annotation_prop, annotation_data}
-use borrow.Author.Rules.{rules}
 use Rattle.step.proofs.typing.annotation_of.Goals as goal
 
 pub returns-in-1 : goal.returns-in-1

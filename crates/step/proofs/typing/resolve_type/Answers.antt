@@ -1,6 +1,5 @@
 use Rattle.step.proofs.Moves.{loaded_arena, loaded_type, loaded_left}
 use Rattle.step.proofs.Typings.{resolve_unknown, resolve_full, resolve_more, resolve_to}
-use borrow.Author.Rules.{rules}
 use Rattle.step.proofs.typing.resolve_type.Goals as goal
 
 pub resolve-requires-clause-arena : goal.resolve-requires-clause-arena

@@ -1,7 +1,4 @@
-use borrow.Author.Rules.{rules}
-use Prim.Native.Nat.{◌-◌}
 use native.Mathlib.Omega.{arith}
-use Rattle.table.specs.Nearest.{Vacant}
 use Rattle.table.proofs.Chains.{vacant_start, vacant_step, vacant_end}
 use Rattle.table.proofs.above.empty.Goals as goal
 

@@ -1,8 +1,5 @@
-use borrow.Author.Rules.{rules}
 use Prim.Native.Nat.{◌-◌}
-use native.Mathlib.Omega.{arith}
 use Rattle.table.specs.Nearest.{Vacant}
-use Rattle.table.proofs.Chains.{vacant_start, vacant_step, vacant_end}
 use Rattle.table.proofs.above.empty.Given as goal
 
 abbrev pub invariant-loop-n : goal.invariant-loop-n

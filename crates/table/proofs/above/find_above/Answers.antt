@@ -1,5 +1,4 @@
-use borrow.Author.Rules.{rules}
-use Rattle.table.proofs.Chains.{Descent, descent_start, descent_fits, descent_step, descent_end}
+use Rattle.table.proofs.Chains.{descent_start, descent_fits, descent_step, descent_end}
 use Rattle.table.proofs.above.find_above.Goals as goal
 
 pub loop-n-init : goal.loop-n-init

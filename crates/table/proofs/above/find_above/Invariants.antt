@@ -1,5 +1,4 @@
-use borrow.Author.Rules.{rules}
-use Rattle.table.proofs.Chains.{Descent, descent_start, descent_fits, descent_step, descent_end}
+use Rattle.table.proofs.Chains.{Descent}
 use Rattle.table.proofs.above.find_above.Given as goal
 
 abbrev pub invariant-loop-n : goal.invariant-loop-n

@@ -1,4 +1,3 @@
-use borrow.Author.Rules.{rules}
 use Rattle.table.proofs.Chains.{noted_put, noted_not}
 use Rattle.table.proofs.above.note.Goals as goal
 

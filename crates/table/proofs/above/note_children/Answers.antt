@@ -1,4 +1,3 @@
-use borrow.Author.Rules.{rules}
 use Rattle.table.proofs.Chains.{body_fits, left_fits, right_fits, children_noted}
 use Rattle.table.proofs.above.note_children.Goals as goal
 

@@ -1,4 +1,3 @@
-use borrow.Author.Rules.{rules}
 use native.Mathlib.Omega.{arith}
 use Rattle.table.proofs.Chains.{climb_start, climb_found, climb_falls, climb_step, climb_end}
 use Rattle.table.proofs.above.settle.Goals as goal

@@ -1,8 +1,6 @@
-use borrow.Author.Rules.{rules}
-use Prim.Native.Nat.{◌-◌, ◌<◌, ◌≤◌}
-use native.Mathlib.Omega.{arith}
+use Prim.Native.Nat.{◌-◌}
 use Rattle.layout.specs.File.{props}
-use Rattle.table.proofs.Chains.{Climb, climb_start, climb_found, climb_falls, climb_step, climb_end}
+use Rattle.table.proofs.Chains.{Climb}
 use Rattle.table.proofs.above.settle.Given as goal
 
 abbrev pub invariant-loop-q : goal.invariant-loop-q

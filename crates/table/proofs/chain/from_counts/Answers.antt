@@ -1,4 +1,3 @@
-use borrow.Author.Rules.{rules}
 use Rattle.table.specs.Tests.{from_counts}
 use Rattle.table.proofs.Headers.{counted}
 use Rattle.table.proofs.Verdicts.{holds, fails, goes_on}

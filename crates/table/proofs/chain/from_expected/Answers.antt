@@ -1,4 +1,3 @@
-use borrow.Author.Rules.{rules}
 use Rattle.table.specs.Tests.{from_expected}
 use Rattle.table.proofs.Verdicts.{holds, fails, goes_on}
 use Rattle.table.proofs.chain.from_expected.Goals as goal

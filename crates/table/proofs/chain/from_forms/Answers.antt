@@ -1,4 +1,3 @@
-use borrow.Author.Rules.{rules}
 use Rattle.table.specs.Tests.{from_forms}
 use Rattle.table.proofs.Passing.{formed}
 use Rattle.table.proofs.Verdicts.{clears, accuses, goes_past}

@@ -1,4 +1,3 @@
-use borrow.Author.Rules.{rules}
 use Rattle.table.specs.Tests.{from_goal}
 use Rattle.table.proofs.Verdicts.{accuses, goes_past}
 use Rattle.table.proofs.chain.from_goal.Goals as goal

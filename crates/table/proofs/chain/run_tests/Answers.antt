@@ -1,4 +1,3 @@
-use borrow.Author.Rules.{rules}
 use Rattle.table.specs.Tests.{tests}
 use Rattle.table.proofs.Headers.{header_length}
 use Rattle.table.proofs.Verdicts.{fails, goes_on}

@@ -1,6 +1,4 @@
 use borrow.Author.Rules.{rules}
-use mathlib.Core.Path.{◌≡◌}
-use lib.ListN.{length}
 use Rattle.table.proofs.Chains.{all_params}
 use Rattle.table.proofs.closed.all_bound.Goals as goal
 

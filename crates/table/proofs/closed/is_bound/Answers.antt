@@ -1,4 +1,3 @@
-use borrow.Author.Rules.{rules}
 use Rattle.table.proofs.Chains.{free_found, bound_found}
 use Rattle.table.proofs.closed.is_bound.Goals as goal
 

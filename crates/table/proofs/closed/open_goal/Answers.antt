@@ -1,4 +1,3 @@
-use borrow.Author.Rules.{rules}
 use native.Mathlib.Omega.{arith}
 use Rattle.table.proofs.Chains.{no_goal, goal_in, goal_shut, goal_open}
 use Rattle.table.proofs.closed.open_goal.Goals as goal

@@ -2,7 +2,6 @@ use Rattle.numbers.specs.Limits.{most_terms}
 use native.Mathlib.Omega.{arith}
 use Rattle.table.specs.Tests.{formless}
 use Rattle.table.proofs.Headers.{first_most}
-use borrow.Author.Rules.{rules}
 use Rattle.table.proofs.forming.formless.Goals as goal
 
 pub or_term-requires-clause-at_most : goal.or_term-requires-clause-at_most

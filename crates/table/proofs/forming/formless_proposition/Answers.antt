@@ -3,10 +3,9 @@ use borrow.Author.Rules.{rules}
 use mathlib.Core.Path.{◌≡◌, sym, ◌∙◌}
 use mathlib.Core.Bool.{Bool, not}
 use mathlib.Core.List.{List}
-use Prim.Native.Nat.{ℕ, ◌≤◌, ◌-◌}
+use Prim.Native.Nat.{ℕ}
 use Rattle.layout.specs.File.{prop_record}
 use Rattle.layout.specs.Form.{prop_form}
-use Rattle.table.specs.Reading.{first, first_from}
 use Rattle.table.proofs.Firsts.{first_start, first_here, first_past, first_none}
 use Rattle.table.proofs.forming.formless_proposition.Goals as goal
 

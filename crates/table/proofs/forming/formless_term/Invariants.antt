@@ -1,13 +1,10 @@
-use mathlib.Core.Bool.{true, false}
-use borrow.Author.Rules.{rules}
-use mathlib.Core.Path.{◌≡◌, sym, ◌∙◌}
+use mathlib.Core.Path.{◌≡◌}
 use mathlib.Core.Bool.{Bool, not}
 use mathlib.Core.List.{List}
 use Prim.Native.Nat.{ℕ, ◌≤◌, ◌-◌}
 use Rattle.layout.specs.File.{term_record}
 use Rattle.layout.specs.Form.{term_form}
 use Rattle.table.specs.Reading.{first, first_from}
-use Rattle.table.proofs.Firsts.{first_start, first_here, first_past, first_none}
 use Rattle.table.proofs.forming.formless_term.Given as goal
 
 abbrev guilty : List ℕ → ℕ → Bool

@@ -4,7 +4,6 @@ use native.Mathlib.Omega.{arith}
 use Rattle.table.specs.declared.Guilty.{Guilty}
 use Rattle.table.specs.Tests.{AtMost}
 use Rattle.table.specs.Tests.{or_term}
-use borrow.Author.Rules.{rules}
 use Rattle.table.proofs.forming.or_term.Goals as goal
 
 pub overflow_add-result : goal.overflow_add-result

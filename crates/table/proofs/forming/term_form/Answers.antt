@@ -1,5 +1,4 @@
 use Rattle.layout.specs.Form.{term_form}
-use borrow.Author.Rules.{rules}
 use Rattle.table.proofs.forming.term_form.Goals as goal
 
 pub returns : goal.returns

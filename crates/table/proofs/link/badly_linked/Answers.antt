@@ -3,7 +3,6 @@ use mathlib.Core.Path.{◌∙◌}
 use native.Mathlib.Omega.{arith}
 use Rattle.table.proofs.Headers.{first_most}
 use Rattle.table.proofs.Guilts.{linked_answer}
-use borrow.Author.Rules.{rules}
 use Rattle.table.proofs.link.badly_linked.Goals as goal
 
 pub or_term-requires-clause-at_most : goal.or_term-requires-clause-at_most

@@ -1,14 +1,11 @@
-use borrow.Author.Rules.{rules}
-use mathlib.Core.Path.{◌≡◌, ap, sym, ◌∙◌}
-use mathlib.Core.Bool.{Bool, true, false, ◌&&◌, ◌||◌, not}
+use mathlib.Core.Path.{◌≡◌}
+use mathlib.Core.Bool.{Bool, ◌&&◌, ◌||◌, not}
 use mathlib.Core.List.{List}
 use Prim.Native.Nat.{ℕ, ◌+◌, ◌≤◌, ◌-◌}
 use lib.ListN.{get_or}
 use lib.Dec.{eqb}
 use Rattle.table.specs.Links.{term_links_ok}
 use Rattle.table.specs.Reading.{first, first_from}
-use Rattle.table.proofs.Guilts.{term_ok}
-use Rattle.table.proofs.Firsts.{first_start, first_here, first_past, first_none}
 use Rattle.table.proofs.link.badly_linked_term.Given as goal
 
 abbrev guilty : List ℕ → List ℕ → ℕ → ℕ → Bool

@@ -3,9 +3,7 @@ use mathlib.Core.Path.{ap, sym, subst, ◌∙◌}
 use Prim.Native.Nat.{◌≤◌}
 use lib.Dec.{ltb}
 use Rattle.layout.specs.declared.form.PropShape.{PropShape}
-use Rattle.layout.proofs.Strange.{past}
 use Rattle.table.proofs.Guilts.{no_child, one_child, two_children}
-use borrow.Author.Rules.{rules}
 use Rattle.table.proofs.link.prop_links_ok.Goals as goal
 
 pub returns-in-0 : goal.returns-in-0

@@ -4,7 +4,6 @@ use lib.Dec.{ltb}
 use Rattle.layout.specs.declared.form.TermShape.{TermShape}
 use Rattle.table.specs.Links.{all_links, term_children}
 use Rattle.table.proofs.Guilts.{children_test}
-use borrow.Author.Rules.{rules}
 use Rattle.table.proofs.link.term_links_ok.Goals as goal
 
 pub returns : goal.returns

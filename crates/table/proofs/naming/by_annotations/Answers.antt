@@ -1,12 +1,10 @@
 use Rattle.numbers.specs.Records.{record_at}
 use Rattle.layout.specs.declared.record.TermRecord.{TermRecord}
 use Rattle.layout.specs.File.{as_term}
-use borrow.Author.Rules.{rules}
 use mathlib.Core.Path.{◌≡◌, ap, subst, ◌∙◌}
 use mathlib.Core.List.{List}
-use Prim.Native.Nat.{ℕ, ◌+◌, ◌≤◌, ◌-◌}
+use Prim.Native.Nat.{ℕ, ◌+◌, ◌≤◌}
 use native.Mathlib.Omega.{arith}
-use lib.ListN.{length}
 use Rattle.layout.specs.File.{term_record}
 use Rattle.table.specs.Links.{hits, sum, annotation}
 use Rattle.table.specs.Naming.{Names}

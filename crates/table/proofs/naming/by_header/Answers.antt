@@ -5,7 +5,6 @@ use Rattle.table.specs.declared.Purpose.{Purpose}
 use Rattle.table.specs.Links.{hits, heads}
 use Rattle.table.specs.Naming.{Names}
 use Rattle.table.proofs.Namings.{names_same}
-use borrow.Author.Rules.{rules}
 use Rattle.table.proofs.naming.by_header.Goals as goal
 
 pub returns-in-Check : goal.returns-in-Check

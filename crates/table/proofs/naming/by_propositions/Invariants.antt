@@ -1,14 +1,8 @@
-use Rattle.numbers.specs.declared.record.Record.{Record}
-use borrow.Author.Rules.{rules}
-use mathlib.Core.Path.{◌≡◌, ap, subst}
 use mathlib.Core.List.{List}
 use Prim.Native.Nat.{ℕ, ◌≤◌, ◌-◌}
-use native.Mathlib.Omega.{arith}
-use lib.ListN.{length}
 use Rattle.layout.specs.File.{prop_record}
 use Rattle.table.specs.Links.{hits, sum, prop_links}
 use Rattle.table.specs.Naming.{Names}
-use Rattle.table.proofs.Namings.{names_same, names_start, names_step}
 use Rattle.table.proofs.naming.by_propositions.Given as goal
 
 abbrev named : List ℕ → ℕ → ℕ → ℕ

@@ -1,16 +1,8 @@
-use Rattle.numbers.specs.Records.{record_at}
-use Rattle.layout.specs.declared.record.TermRecord.{TermRecord}
-use Rattle.layout.specs.File.{as_term}
-use borrow.Author.Rules.{rules}
-use mathlib.Core.Path.{◌≡◌, ap, subst, ◌∙◌}
 use mathlib.Core.List.{List}
-use Prim.Native.Nat.{ℕ, ◌+◌, ◌≤◌, ◌-◌}
-use native.Mathlib.Omega.{arith}
-use lib.ListN.{length}
+use Prim.Native.Nat.{ℕ, ◌≤◌, ◌-◌}
 use Rattle.layout.specs.File.{term_record}
 use Rattle.table.specs.Links.{hits, sum, term_links}
 use Rattle.table.specs.Naming.{Names}
-use Rattle.table.proofs.Namings.{names_same, names_start, names_step}
 use Rattle.table.proofs.naming.by_terms.Given as goal
 
 abbrev named : List ℕ → ℕ → ℕ → ℕ

@@ -1,6 +1,5 @@
 use lib.ListN.{length}
 use Rattle.table.proofs.Namings.{names_shown}
-use borrow.Author.Rules.{rules}
 use Rattle.table.proofs.naming.count_names.Goals as goal
 
 pub returns : goal.returns

@@ -1,5 +1,4 @@
 use Rattle.table.proofs.Namings.{name_unused, name_past, name_note}
-use borrow.Author.Rules.{rules}
 use Rattle.table.proofs.naming.name.Goals as goal
 
 pub returns-then-m-bound : goal.returns-then-m-bound

@@ -2,7 +2,6 @@ use mathlib.Core.Path.{ap, ◌∙◌}
 use Rattle.layout.specs.declared.form.PropShape.{PropShape}
 use Rattle.table.specs.Links.{hits, prop_children, prop_links}
 use Rattle.table.proofs.Namings.{names_three, prop_hits}
-use borrow.Author.Rules.{rules}
 use Rattle.table.proofs.naming.name_children.Goals as goal
 
 pub returns : goal.returns

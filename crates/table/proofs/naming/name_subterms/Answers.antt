@@ -2,7 +2,6 @@ use mathlib.Core.Path.{ap, ◌∙◌}
 use Rattle.layout.specs.declared.form.TermShape.{TermShape}
 use Rattle.table.specs.Links.{hits, term_children, term_links}
 use Rattle.table.proofs.Namings.{names_three, term_hits}
-use borrow.Author.Rules.{rules}
 use Rattle.table.proofs.naming.name_subterms.Goals as goal
 
 pub returns : goal.returns

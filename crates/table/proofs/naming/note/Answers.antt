@@ -2,7 +2,6 @@ use mathlib.Core.Path.{ap}
 use Prim.Native.Nat.{ℕ}
 use native.Mathlib.Omega.{arith}
 use lib.ListN.{set}
-use borrow.Author.Rules.{rules}
 use Rattle.table.proofs.naming.note.Goals as goal
 
 pub returns-then-work-i-eq0 : goal.returns-then-work-i-eq0

@@ -1,4 +1,3 @@
-use borrow.Author.Rules.{rules}
 use Rattle.table.proofs.opening.well_aimed.Goals as goal
 
 pub returns-in-Check : goal.returns-in-Check

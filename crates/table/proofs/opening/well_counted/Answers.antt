@@ -1,5 +1,4 @@
 use Rattle.table.specs.Tests.{counts}
-use borrow.Author.Rules.{rules}
 use Rattle.table.proofs.opening.well_counted.Goals as goal
 
 pub returns : goal.returns

@@ -6,7 +6,6 @@ use lib.ListN.{length}
 use lib.Dec.{leb}
 use borrow.Author.Tests.{lt-leb, le-leb}
 use Rattle.table.specs.Tests.{header}
-use borrow.Author.Rules.{rules}
 use Rattle.table.proofs.opening.well_marked.Goals as goal
 
 pub returns-then-file-lt16 : goal.returns-then-file-lt16

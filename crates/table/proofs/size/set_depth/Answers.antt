@@ -1,4 +1,3 @@
-use borrow.Author.Rules.{rules}
 use Rattle.table.proofs.Heights.{used_within, deepened_one, deepened_none}
 use Rattle.table.proofs.size.set_depth.Goals as goal
 

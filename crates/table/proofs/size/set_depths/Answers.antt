@@ -1,5 +1,4 @@
 use mathlib.Core.Path.{refl, ◌∙◌}
-use borrow.Author.Rules.{rules}
 use Rattle.table.proofs.Heights.{children_within, children_deepened}
 use Rattle.table.proofs.size.set_depths.Goals as goal
 

@@ -1,13 +1,10 @@
-use mathlib.Core.Path.{◌≡◌, sym, ◌∙◌}
-use Prim.Native.Nat.{◌≤◌, ◌<◌, ◌-◌}
+use mathlib.Core.Path.{sym, ◌∙◌}
 use native.Mathlib.Omega.{arith}
-use lib.ListN.{length, length-set}
+use lib.ListN.{length-set}
 use borrow.Author.Rules.{rules}
-use Rattle.layout.specs.File.{props}
-use Rattle.table.specs.Reading.{first, first_from, prop_at}
-use Rattle.table.specs.Size.{height, too_high}
+use Rattle.table.specs.Size.{too_high}
 use Rattle.table.proofs.Firsts.{first_start, first_here, first_past, first_none}
-use Rattle.table.proofs.Heights.{Heights, children_high, height_found, heights_next, is_high, not_high}
+use Rattle.table.proofs.Heights.{children_high, height_found, heights_next, is_high, not_high}
 use Rattle.table.proofs.size.too_high.Goals as goal
 
 pub loop-n-init : goal.loop-n-init

@@ -1,13 +1,9 @@
-use mathlib.Core.Path.{◌≡◌, sym, ◌∙◌}
-use Prim.Native.Nat.{◌≤◌, ◌<◌, ◌-◌}
-use native.Mathlib.Omega.{arith}
-use lib.ListN.{length, length-set}
-use borrow.Author.Rules.{rules}
-use Rattle.layout.specs.File.{props}
-use Rattle.table.specs.Reading.{first, first_from, prop_at}
-use Rattle.table.specs.Size.{height, too_high}
-use Rattle.table.proofs.Firsts.{first_start, first_here, first_past, first_none}
-use Rattle.table.proofs.Heights.{Heights, children_high, height_found, heights_next, is_high, not_high}
+use mathlib.Core.Path.{◌≡◌}
+use Prim.Native.Nat.{◌≤◌, ◌-◌}
+use lib.ListN.{length}
+use Rattle.table.specs.Reading.{first, first_from}
+use Rattle.table.specs.Size.{too_high}
+use Rattle.table.proofs.Heights.{Heights}
 use Rattle.table.proofs.size.too_high.Given as goal
 
 -- no record below n is too high, and the room has their heights

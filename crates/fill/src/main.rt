@@ -3,26 +3,35 @@
 // `fill OLD GOAL FILLING EDITED` also writes the edited table of an accepted filling to EDITED.
 #![tactic(auto)]
 
+ghost use Rattle.std.specs.Prelude.{◌≤◌, length};
+
 use editing::EDITED;
 use entry::rooms::{GOALS, PROPOSITIONS, TREE, WORK};
 use filling::answer::{Filled, Which};
 use filling::fill;
 use layout::header::{proposition_count, term_count};
-use libc::STDERR_FILENO;
-use show::arguments::{Numeral, number_argument, write_argument};
+use show::arguments::{Numeral, argument_count, number_argument, write_argument};
 use show::input::{LONGEST, read_argument};
+use std::io;
+use std::io::Write;
 
 // The end of a refusal's line.
-fn in_table(which: Which) {
+fn in_table<W: Write>(out: &mut W, which: Which) -> io::Result<()> {
     match which {
-        Which::Old => show::text(b" old\n"),
-        Which::Filling => show::text(b" filling\n"),
-        Which::Edit => show::text(b" edited\n"),
+        Which::Old => show::text(out, b" old\n"),
+        Which::Filling => show::text(out, b" filling\n"),
+        Which::Edit => show::text(out, b" edited\n"),
     }
 }
 
 // The filling's answer, in rooms of the listed sizes; and whether it is accepted.
-fn answer(old: &[u8], goal: u16, filling: &[u8], edited: &mut [u8]) -> bool {
+fn answer<W: Write>(
+    out: &mut W,
+    old: &[u8],
+    goal: u16,
+    filling: &[u8],
+    edited: &mut [u8],
+) -> io::Result<bool> {
     let mut tree = [0u8; TREE];
     let mut goals = [0u8; GOALS];
     let mut props = [0u8; PROPOSITIONS];
@@ -31,57 +40,62 @@ fn answer(old: &[u8], goal: u16, filling: &[u8], edited: &mut [u8]) -> bool {
         old, goal, filling, &mut tree, &mut goals, &mut props, &mut work, edited,
     ) {
         Filled::Refused(e, which) => {
-            show::refusal(e);
-            in_table(which);
-            false
+            show::refusal(out, e)?;
+            in_table(out, which)?;
+            Ok(false)
         }
         Filled::Accepted(c) => {
-            show::tree::short(&tree, &goals, &props, c.records, c.goals);
-            true
+            show::tree::short(out, &tree, &goals, &props, c.records, c.goals)?;
+            Ok(true)
         }
     }
+}
+
+// How long the edited table is: as its header says, and no longer than its room.
+fn length_of(edited: &[u8]) -> usize
+    requires { 16 ≤ length edited.now }
+    ensures { result ≤ length edited.now }
+{
+    let p = proposition_count(edited) as usize;
+    let t = term_count(edited) as usize;
+    let n = 16 * (p + t) + 16;
+    if n < edited.len() { n } else { edited.len() }
 }
 
 // The edited table goes into the file that argument 4 names, without the zeros behind it in its room.
-fn write_edited(edited: &[u8]) {
+fn write_edited(rt: &HostRuntime, edited: &[u8]) {
     if 16 <= edited.len() {
-        let p = proposition_count(edited) as usize;
-        let t = term_count(edited) as usize;
-        let n = io::count((16 * (p + t) + 16) as isize, edited);
-        write_argument(4, &edited[..n]);
+        let n = length_of(edited);
+        write_argument(rt, 4, &edited[..n]);
     }
 }
 
-fn fill_files(goal: u16, kept: bool) {
+fn fill_files(rt: &HostRuntime, goal: u16, kept: bool) -> io::Result<()> {
     let mut old = [0u8; LONGEST];
-    let got = read_argument(1, &mut old);
-    if got < 0 {
-        return;
-    }
+    let Some(n) = read_argument(rt, 1, &mut old) else {
+        return Ok(());
+    };
     let mut filling = [0u8; LONGEST];
-    let more = read_argument(3, &mut filling);
-    if more < 0 {
-        return;
-    }
-    let n = io::count(got, &old);
-    let m = io::count(more, &filling);
+    let Some(m) = read_argument(rt, 3, &mut filling) else {
+        return Ok(());
+    };
     let mut edited = [0u8; EDITED];
-    let accepted = answer(&old[..n], goal, &filling[..m], &mut edited);
+    let mut out = show::output(rt);
+    let accepted = answer(&mut out, &old[..n], goal, &filling[..m], &mut edited)?;
+    out.flush()?;
     if accepted & kept {
-        write_edited(&edited);
+        write_edited(rt, &edited);
     }
+    Ok(())
 }
 
-fn main() {
-    let count = os::arg_count();
+fn main(rt: HostRuntime) -> io::Result<()> {
+    let count = argument_count(&rt);
     if (count != 4) & (count != 5) {
-        io::write_all(STDERR_FILENO, b"usage: fill OLD GOAL FILLING [EDITED]\n");
-        return;
+        return eprintln!(rt; "usage: fill OLD GOAL FILLING [EDITED]");
     }
-    match number_argument(2) {
-        Numeral::Number(goal) => fill_files(goal, count == 5),
-        Numeral::Other => {
-            io::write_all(STDERR_FILENO, b"the goal is not a number\n");
-        }
+    match number_argument(&rt, 2) {
+        Numeral::Number(goal) => fill_files(&rt, goal, count == 5),
+        Numeral::Other => eprintln!(rt; "the goal is not a number"),
     }
 }

@@ -2,57 +2,59 @@
 // `inspect -f FILE` tests it as a filling.
 #![tactic(auto)]
 
-use libc::STDERR_FILENO;
+use show::arguments::argument_count;
 use show::input::{LONGEST, read_argument};
+use std::io;
+use std::io::Write;
+use std::rt::Env;
 use table::{Purpose, Verdict};
 
-fn counts(file: &[u8]) {
+fn counts<W: Write>(out: &mut W, file: &[u8]) -> io::Result<()> {
     if 16 <= file.len() {
-        show::text(b"propositions ");
-        show::number(layout::header::proposition_count(file) as u64);
-        show::text(b" terms ");
-        show::number(layout::header::term_count(file) as u64);
-        show::text(b"\n");
+        show::text(out, b"propositions ")?;
+        show::number(out, layout::header::proposition_count(file) as u64)?;
+        show::text(out, b" terms ")?;
+        show::number(out, layout::header::term_count(file) as u64)?;
+        show::text(out, b"\n")?;
     }
+    Ok(())
+}
+
+fn answer<W: Write>(out: &mut W, file: &[u8], purpose: Purpose) -> io::Result<()> {
+    let mut work = [0u8; table::ROOM];
+    counts(out, file)?;
+    show::answer(out, table::test_table(file, &mut work, purpose))
 }
 
 // The file that argument i names.
-fn inspect(i: usize, purpose: Purpose) {
+fn inspect(rt: &HostRuntime, i: usize, purpose: Purpose) -> io::Result<()> {
     let mut room = [0u8; LONGEST];
-    let got = read_argument(i, &mut room);
-    if got < 0 {
-        return;
-    }
-    let mut work = [0u8; table::ROOM];
-    let n = io::count(got, &room);
-    counts(&room[..n]);
-    show::answer(table::test_table(&room[..n], &mut work, purpose));
-}
-
-fn usage() {
-    io::write_all(
-        STDERR_FILENO,
-        b"usage: inspect FILE, or inspect -f FILE for a filling\n",
-    );
+    let Some(n) = read_argument(rt, i, &mut room) else {
+        return Ok(());
+    };
+    let mut out = show::output(rt);
+    answer(&mut out, &room[..n], purpose)?;
+    out.flush()
 }
 
 // Whether the first argument is -f.
-fn is_filling() -> bool {
-    let mut flag = io::buffer();
-    let length = os::arg(1, &mut flag);
-    (length == 2) & ((flag[0] == b'-') & (flag[1] == b'f'))
+fn is_filling(rt: &HostRuntime) -> bool {
+    let mut flag = [0u8; 2];
+    match rt.arg(1, &mut flag) {
+        Ok(length) => (length == 2) & ((flag[0] == b'-') & (flag[1] == b'f')),
+        Err(_) => false,
+    }
 }
 
-fn main() {
-    if os::arg_count() == 2 {
-        inspect(1, Purpose::Check);
-        return;
+fn main(rt: HostRuntime) -> io::Result<()> {
+    let count = argument_count(&rt);
+    if count == 2 {
+        return inspect(&rt, 1, Purpose::Check);
     }
-    if os::arg_count() == 3 {
-        if is_filling() {
-            inspect(2, Purpose::Filling);
-            return;
+    if count == 3 {
+        if is_filling(&rt) {
+            return inspect(&rt, 2, Purpose::Filling);
         }
     }
-    usage();
+    eprintln!(rt; "usage: inspect FILE, or inspect -f FILE for a filling")
 }

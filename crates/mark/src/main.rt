@@ -4,31 +4,32 @@
 
 use entry::rooms::{GOALS, PROPOSITIONS, TREE, WORK};
 use entry::{Mark, check};
-use libc::STDERR_FILENO;
+use show::arguments::argument_count;
 use show::input::{LONGEST, read_argument};
+use std::io;
+use std::io::Write;
 
 // The mark of these bytes, in rooms of the listed sizes.
-fn answer(file: &[u8]) {
+fn answer<W: Write>(out: &mut W, file: &[u8]) -> io::Result<()> {
     let mut tree = [0u8; TREE];
     let mut goals = [0u8; GOALS];
     let mut props = [0u8; PROPOSITIONS];
     let mut work = [0u8; WORK];
     match check(file, &mut tree, &mut goals, &mut props, &mut work) {
-        Mark::Refused(e) => show::refused(e),
-        Mark::Accepted(c) => show::tree::short(&tree, &goals, &props, c.records, c.goals),
+        Mark::Refused(e) => show::refused(out, e),
+        Mark::Accepted(c) => show::tree::short(out, &tree, &goals, &props, c.records, c.goals),
     }
 }
 
-fn main() {
-    if os::arg_count() != 2 {
-        io::write_all(STDERR_FILENO, b"usage: mark FILE\n");
-        return;
+fn main(rt: HostRuntime) -> io::Result<()> {
+    if argument_count(&rt) != 2 {
+        return eprintln!(rt; "usage: mark FILE");
     }
     let mut room = [0u8; LONGEST];
-    let got = read_argument(1, &mut room);
-    if got < 0 {
-        return;
-    }
-    let n = io::count(got, &room);
-    answer(&room[..n]);
+    let Some(n) = read_argument(&rt, 1, &mut room) else {
+        return Ok(());
+    };
+    let mut out = show::output(&rt);
+    answer(&mut out, &room[..n])?;
+    out.flush()
 }

@@ -2,8 +2,9 @@
 // 32 bits, a byte that says what it is for (0 a check, else a filling), and its bytes. tests/tables/README.md has the rest.
 #![tactic(auto)]
 
-use libc::STDIN_FILENO;
-use show::input::{LONGEST, next_word, read_table};
+use show::input::{LONGEST, next_byte, next_word, read_table};
+use std::io;
+use std::io::{Read, Write};
 use table::Purpose;
 
 fn purpose_of(mode: u8) -> Purpose {
@@ -13,25 +14,23 @@ fn purpose_of(mode: u8) -> Purpose {
     }
 }
 
-fn next_mode() -> u8 {
-    let mut mode = [0u8; 1];
-    io::read_full(STDIN_FILENO, &mut mode);
-    mode[0]
-}
-
-fn replay() {
+fn replay<R: Read, W: Write>(from: &mut R, out: &mut W) -> io::Result<()> {
     let mut room = [0u8; LONGEST];
     let mut work = [0u8; table::ROOM];
-    let length = next_word();
-    let mode = next_mode();
-    let got = read_table(&mut room, length);
-    show::answer(table::test_table(&room[..got], &mut work, purpose_of(mode)));
+    let length = next_word(from);
+    let mode = next_byte(from);
+    let got = read_table(from, &mut room, length);
+    show::answer(
+        out,
+        table::test_table(&room[..got], &mut work, purpose_of(mode)),
+    )
 }
 
-fn main() {
-    let mut left = next_word();
-    while 0 < left {
-        left -= 1;
-        replay();
+fn main(rt: HostRuntime) -> io::Result<()> {
+    let mut from = rt.stdin();
+    let mut out = show::output(&rt);
+    for _ in 0..next_word(&mut from) {
+        replay(&mut from, &mut out)?;
     }
+    out.flush()
 }

@@ -1,15 +1,42 @@
 // A program's arguments: as text, as a number, and as the name of a file to write.
-ghost use Rattle.std.specs.Prelude.{◌≤◌};
+ghost use Rattle.std.specs.Prelude.{◌≤◌, IfSome};
+ghost use Rattle.show.specs.Counts.{IsPrefixLen};
 
-// The text of argument i at the start of the room. The answer counts its bytes (`io::count`), or is -1 where it does not fit; standard error then
-// says so.
-pub fn text_argument(i: usize, room: &mut [u8]) -> isize {
-    let length = os::arg(i, room);
-    if os::errno() != 0 {
-        os::fail(b"an argument");
-        return -1;
+use super::failure::{tell, tell_error};
+use std::env::FillError;
+use std::io::Write;
+use std::rt::{Env, Files};
+use std::{fs, io};
+
+// Longer than any file's name.
+pub const ARGUMENT: usize = 4096;
+
+// How many arguments the program was started with, its own name among them.
+pub fn argument_count<R: Env>(rt: &R) -> usize {
+    let mut room = [0u8; 1];
+    for i in 0..usize::MAX {
+        if let Err(FillError::NotPresent) = rt.arg(i, &mut room) {
+            return i;
+        }
     }
-    length as isize
+    usize::MAX
+}
+
+// The text of argument i at the start of the room. The answer counts its bytes, or is `None` where it does not fit; standard error then says so.
+pub fn text_argument<R: Env + Eprint>(rt: &R, i: usize, room: &mut [u8]) -> Option<usize>
+    ensures { IfSome result (λ n. IsPrefixLen n room.new) }
+{
+    match rt.arg(i, room) {
+        Ok(n) => Some(n),
+        Err(FillError::TooLong) => {
+            tell(rt, "an argument", "File name too long");
+            None
+        }
+        Err(FillError::NotPresent) => {
+            tell(rt, "an argument", "Invalid argument");
+            None
+        }
+    }
 }
 
 // What a text spells: a number, or something else.
@@ -45,41 +72,58 @@ fn number_of(spelled: &[u8]) -> Numeral {
         return Numeral::Other;
     }
     let mut n = 0;
-    let mut i = 0;
-    while i < spelled.len() {
-        let d = digit(spelled[i]);
+    for b in spelled {
+        let d = digit(*b);
         if d == 10 {
             return Numeral::Other;
         }
         n = longer(n, d);
-        i += 1;
     }
     Numeral::Number(n)
 }
 
 // What argument i spells.
-pub fn number_argument(i: usize) -> Numeral {
-    let mut room = io::buffer();
-    let got = text_argument(i, &mut room);
-    let n = io::count(got, &room);
-    number_of(&room[..n])
+pub fn number_argument<R: Env + Eprint>(rt: &R, i: usize) -> Numeral {
+    let mut room = [0u8; ARGUMENT];
+    match text_argument(rt, i, &mut room) {
+        Some(n) => number_of(&room[..n]),
+        None => Numeral::Other,
+    }
+}
+
+// A file's name as text, which is what the library opens; where it is none, standard error says so.
+pub fn name_of<'a, R: Eprint>(rt: &R, spelled: &'a [u8]) -> Option<&'a str> {
+    match std::str::from_utf8(spelled) {
+        Ok(name) => Some(name),
+        Err(_) => {
+            tell(
+                rt,
+                "an argument",
+                "Invalid or incomplete multibyte or wide character",
+            );
+            None
+        }
+    }
+}
+
+fn write_file<R: Files>(rt: &R, path: &str, bytes: &[u8]) -> io::Result<()> {
+    let mut file = fs::create(rt, path)?;
+    file.write_all(bytes)
+}
+
+// The same of the file of that name.
+fn write_named<R: Files + Eprint>(rt: &R, spelled: &[u8], bytes: &[u8]) {
+    if let Some(path) = name_of(rt, spelled) {
+        if let Err(e) = write_file(rt, path, bytes) {
+            tell_error(rt, path, e);
+        }
+    }
 }
 
 // Writes the bytes to the file that argument i names. Where that fails, standard error says why.
-pub fn write_argument(i: usize, bytes: &[u8]) {
-    let mut room = io::buffer();
-    let got = text_argument(i, &mut room);
-    if got < 0 {
-        return;
+pub fn write_argument<R: Env + Files + Eprint>(rt: &R, i: usize, bytes: &[u8]) {
+    let mut room = [0u8; ARGUMENT];
+    if let Some(n) = text_argument(rt, i, &mut room) {
+        write_named(rt, &room[..n], bytes);
     }
-    let n = io::count(got, &room);
-    let fd = os::open_overwrite(&room[..n]);
-    if fd < 0 {
-        os::fail(&room[..n]);
-        return;
-    }
-    if !io::write_all(fd, bytes) {
-        os::fail(&room[..n]);
-    }
-    libc::close(fd);
 }

@@ -1,47 +1,81 @@
 // How programs read: a whole file, or tables from standard input, each after its length.
-ghost use Rattle.std.specs.Prelude.{◌<◌};
-ghost use Rattle.io.specs.Counts.{IsPrefixLen};
+ghost use Rattle.std.specs.Prelude.{◌<◌, IfSome, IfOk};
+ghost use Rattle.show.specs.Counts.{IsPrefixLen};
 
-use super::arguments::text_argument;
-use libc::STDIN_FILENO;
+use super::arguments::{ARGUMENT, name_of, text_argument};
+use super::failure::tell_error;
+use std::io::Read;
+use std::rt::{Env, Files};
+use std::{fs, io};
 
 // Longer than any table that passes. Of a longer file a program reads so much: its header is there, and no count goes with such a
 // length, so tests 2 and 3 answer the same.
 pub const LONGEST: usize = 65536;
 
-// `io::read_full` does not say why it stopped. At a file's end one more read gives nothing; after a failure it fails again.
-fn fails(fd: i32) -> bool {
-    let mut one = [0u8; 1];
-    libc::read(fd, &mut one) < 0
+// One read. It puts nothing there at the input's end, and where it fails.
+fn read_some<R: Read>(from: &mut R, room: &mut [u8]) -> usize
+    ensures { IsPrefixLen result room.new }
+{
+    match from.read(room) {
+        Ok(n) => n,
+        Err(_) => 0,
+    }
 }
 
-// The first bytes of a file, as many as the room has. The answer counts them (`io::count`), or is -1 where the file cannot be read; standard
-// error then says which it is and why.
-fn read_file(path: &[u8], room: &mut [u8]) -> isize {
-    let fd = os::open_read(path);
-    if fd < 0 {
-        os::fail(path);
-        return -1;
+// Reads until the room is full, the input ends or a read fails. The answer counts the bytes that are then at the room's start.
+fn read_full<R: Read>(from: &mut R, room: &mut [u8]) -> usize
+    ensures { IsPrefixLen result room.new }
+{
+    let mut done = 0;
+    while done < room.len() {
+        let n = read_some(from, &mut room[done..]);
+        if n == 0 {
+            break;
+        }
+        done += n;
     }
-    let got = io::read_full(fd, room);
-    if fails(fd) {
-        os::fail(path);
-        libc::close(fd);
-        return -1;
+    done
+}
+
+// `read_full` does not say why it stopped. At a file's end one more read gives nothing; after a failure it fails again.
+fn failure<R: Read>(from: &mut R) -> io::Result<()> {
+    let mut one = [0u8; 1];
+    from.read(&mut one)?;
+    Ok(())
+}
+
+// The first bytes of a file, as many as the room has.
+fn read_open<R: Files>(rt: &R, path: &str, room: &mut [u8]) -> io::Result<usize>
+    ensures { IfOk result (λ n. IsPrefixLen n room.new) }
+{
+    let mut file = fs::open(rt, path)?;
+    let got = read_full(&mut file, room);
+    failure(&mut file)?;
+    Ok(got)
+}
+
+// The same, of a file by its name. The answer counts them, or is `None` where the file cannot be read; standard error then says which it is and
+// why.
+fn read_file<R: Files + Eprint>(rt: &R, spelled: &[u8], room: &mut [u8]) -> Option<usize>
+    ensures { IfSome result (λ n. IsPrefixLen n room.new) }
+{
+    let path = name_of(rt, spelled)?;
+    match read_open(rt, path, room) {
+        Ok(got) => Some(got),
+        Err(e) => {
+            tell_error(rt, path, e);
+            None
+        }
     }
-    libc::close(fd);
-    got as isize
 }
 
 // The same of the file that argument i names.
-pub fn read_argument(i: usize, room: &mut [u8]) -> isize {
-    let mut path = io::buffer();
-    let got = text_argument(i, &mut path);
-    if got < 0 {
-        return -1;
-    }
-    let n = io::count(got, &path);
-    read_file(&path[..n], room)
+pub fn read_argument<R: Env + Files + Eprint>(rt: &R, i: usize, room: &mut [u8]) -> Option<usize>
+    ensures { IfSome result (λ n. IsPrefixLen n room.new) }
+{
+    let mut path = [0u8; ARGUMENT];
+    let n = text_argument(rt, i, &mut path)?;
+    read_file(rt, &path[..n], room)
 }
 
 fn wide(b: u8) -> usize
@@ -50,42 +84,47 @@ fn wide(b: u8) -> usize
     b as usize
 }
 
-// The next 32-bit number of standard input, low byte first; 0 where the input ends.
-pub fn next_word() -> usize {
+// The next 32-bit number of the input, low byte first; 0 where the input ends.
+pub fn next_word<R: Read>(from: &mut R) -> usize {
     let mut four = [0u8; 4];
-    let got = io::read_full(STDIN_FILENO, &mut four);
+    let got = read_full(from, &mut four);
     if got < 4 {
         return 0;
     }
     wide(four[0]) + 256 * wide(four[1]) + 65536 * wide(four[2]) + 16777216 * wide(four[3])
 }
 
-// Whether there was a byte to skip.
-fn skip_byte() -> bool {
+// The next byte of the input; 0 where the input ends.
+pub fn next_byte<R: Read>(from: &mut R) -> u8 {
     let mut one = [0u8; 1];
-    let got = io::read_full(STDIN_FILENO, &mut one);
+    read_full(from, &mut one);
+    one[0]
+}
+
+// Whether there was a byte to skip.
+fn skip_byte<R: Read>(from: &mut R) -> bool {
+    let mut one = [0u8; 1];
+    let got = read_full(from, &mut one);
     got == 1
 }
 
 // Reads so many bytes and forgets them, or as many as there are.
-fn skip(count: usize) {
-    let mut left = count;
-    while 0 < left {
-        left -= 1;
-        if !skip_byte() {
+fn skip<R: Read>(from: &mut R, count: usize) {
+    for _ in 0..count {
+        if !skip_byte(from) {
             return;
         }
     }
 }
 
 // The first bytes of a table of that length, as many as the room has; the others are skipped. The answer counts them.
-pub fn read_table(room: &mut [u8], length: usize) -> usize
+pub fn read_table<R: Read>(from: &mut R, room: &mut [u8], length: usize) -> usize
     ensures { IsPrefixLen result room.new }
 {
     if length <= room.len() {
-        return io::read_full(STDIN_FILENO, &mut room[..length]);
+        return read_full(from, &mut room[..length]);
     }
-    let got = io::read_full(STDIN_FILENO, room);
-    skip(length - room.len());
+    let got = read_full(from, room);
+    skip(from, length - room.len());
     got
 }

@@ -1,68 +1,70 @@
 // A proposition of its room, written out: T, F, (& p q), (| p q), (> p q), (A name datatype p), (E name datatype p), (p predicate parameters).
 // A name is n and its number; a parameter is f and its name, s and a serial, or b and the quantifiers between the atom and its own.
-use super::{index, text};
+use super::{index, number, text};
 use numbers::record::{Record, record_at};
 use prop::atom::{Parameter, parameter_at};
 use prop::node::{AND, ATOM, EXISTS, FALSE, FOR_ALL, IMPL, OR, TRUE};
+use std::io;
+use std::io::Write;
 
-fn name(n: u16) {
-    text(b" n");
-    super::number(n as u64);
+fn name<W: Write>(out: &mut W, n: u16) -> io::Result<()> {
+    text(out, b" n")?;
+    number(out, n as u64)
 }
 
-fn written(p: Parameter) {
+fn written<W: Write>(out: &mut W, p: Parameter) -> io::Result<()> {
     match p {
         Parameter::Free(x) => {
-            text(b" fn");
-            super::number(x.0 as u64);
+            text(out, b" fn")?;
+            number(out, x.0 as u64)
         }
         Parameter::Identifier(i) => {
-            text(b" s");
-            super::number(i.0 as u64);
+            text(out, b" s")?;
+            number(out, i.0 as u64)
         }
         Parameter::Bound(k) => {
-            text(b" b");
-            super::number(k as u64);
+            text(out, b" b")?;
+            number(out, k as u64)
         }
-        Parameter::Unused => {}
+        Parameter::Unused => Ok(()),
     }
 }
 
-fn atom(r: Record) {
-    text(b"(p");
-    name(r.a);
-    written(parameter_at(r, 0));
-    written(parameter_at(r, 1));
-    written(parameter_at(r, 2));
-    written(parameter_at(r, 3));
-    text(b")");
+fn atom<W: Write>(out: &mut W, r: Record) -> io::Result<()> {
+    text(out, b"(p")?;
+    name(out, r.a)?;
+    written(out, parameter_at(r, 0))?;
+    written(out, parameter_at(r, 1))?;
+    written(out, parameter_at(r, 2))?;
+    written(out, parameter_at(r, 3))?;
+    text(out, b")")
 }
 
-fn link(kind: u8) {
+fn link<W: Write>(out: &mut W, kind: u8) -> io::Result<()> {
     match kind {
-        AND => text(b"(& "),
-        OR => text(b"(| "),
-        _ => text(b"(> "),
+        AND => text(out, b"(& "),
+        OR => text(out, b"(| "),
+        _ => text(out, b"(> "),
     }
 }
 
-fn quantifier(r: Record) {
+fn quantifier<W: Write>(out: &mut W, r: Record) -> io::Result<()> {
     let kind = r.kind;
     if kind == FOR_ALL {
-        text(b"(A");
+        text(out, b"(A")?;
     } else {
-        text(b"(E");
+        text(out, b"(E")?;
     }
-    name(r.a);
-    name(r.b);
-    text(b" ");
+    name(out, r.a)?;
+    name(out, r.b)?;
+    text(out, b" ")
 }
 
 // Proposition n. Its parts have smaller numbers.
-pub fn proposition(room: &[u8], n: u16) {
+pub fn proposition<W: Write>(out: &mut W, room: &[u8], n: u16) -> io::Result<()> {
     let i = index(n);
     if room.len() < 16 * i + 16 {
-        return;
+        return Ok(());
     }
     let r = record_at(room, i);
     let kind = r.kind;
@@ -70,26 +72,26 @@ pub fn proposition(room: &[u8], n: u16) {
     let b = r.b;
     let c = r.c;
     match kind {
-        TRUE => text(b"T"),
-        FALSE => text(b"F"),
+        TRUE => text(out, b"T"),
+        FALSE => text(out, b"F"),
         AND..=IMPL => {
-            link(kind);
+            link(out, kind)?;
             if a < n {
-                proposition(room, a);
+                proposition(out, room, a)?;
             }
-            text(b" ");
+            text(out, b" ")?;
             if b < n {
-                proposition(room, b);
+                proposition(out, room, b)?;
             }
-            text(b")");
+            text(out, b")")
         }
         FOR_ALL..=EXISTS => {
-            quantifier(r);
+            quantifier(out, r)?;
             if c < n {
-                proposition(room, c);
+                proposition(out, room, c)?;
             }
-            text(b")");
+            text(out, b")")
         }
-        ATOM..=255 => atom(r),
+        ATOM..=255 => atom(out, r),
     }
 }

@@ -6,37 +6,43 @@
 use entry::rooms::{GOALS, PROPOSITIONS, TREE, WORK};
 use entry::{Mark, check};
 use show::input::{LONGEST, next_word, read_table};
+use std::io;
+use std::io::{Read, Write};
 
-fn answer(file: &[u8]) {
+fn answer<W: Write>(out: &mut W, file: &[u8]) -> io::Result<()> {
     let mut tree = [0u8; TREE];
     let mut goals = [0u8; GOALS];
     let mut props = [0u8; PROPOSITIONS];
     let mut work = [0u8; WORK];
     match check(file, &mut tree, &mut goals, &mut props, &mut work) {
-        Mark::Refused(e) => show::refused(e),
-        Mark::Accepted(c) => {
-            show::tree::whole(&tree, &goals, &props, c.records, c.goals, c.serials, c.made);
-        }
+        Mark::Refused(e) => show::refused(out, e),
+        Mark::Accepted(c) => show::tree::whole(
+            out, &tree, &goals, &props, c.records, c.goals, c.serials, c.made,
+        ),
     }
 }
 
 // The answer to the next table, which is number `count`; or there is none.
-fn next(count: u64) -> bool {
-    let length = next_word();
+fn next<R: Read, W: Write>(from: &mut R, out: &mut W, count: u64) -> io::Result<bool> {
+    let length = next_word(from);
     if length == 0 {
-        return false;
+        return Ok(false);
     }
-    show::heading(count);
+    show::heading(out, count)?;
     let mut room = [0u8; LONGEST];
-    let got = read_table(&mut room, length);
-    answer(&room[..got]);
-    show::text(b"\n");
-    true
+    let got = read_table(from, &mut room, length);
+    answer(out, &room[..got])?;
+    show::text(out, b"\n")?;
+    Ok(true)
 }
 
-fn main() {
-    let mut count = 0;
-    while count < u64::MAX && next(count) {
-        count += 1;
+fn main(rt: HostRuntime) -> io::Result<()> {
+    let mut from = rt.stdin();
+    let mut out = show::output(&rt);
+    for count in 0..u64::MAX {
+        if !next(&mut from, &mut out, count)? {
+            break;
+        }
     }
+    out.flush()
 }

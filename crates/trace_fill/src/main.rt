@@ -8,17 +8,19 @@ use entry::rooms::{GOALS, PROPOSITIONS, TREE, WORK};
 use filling::answer::{Filled, Which};
 use filling::fill;
 use show::input::{LONGEST, next_word, read_table};
+use std::io;
+use std::io::{Read, Write};
 
 // The line after a refusal.
-fn in_table(which: Which) {
+fn in_table<W: Write>(out: &mut W, which: Which) -> io::Result<()> {
     match which {
-        Which::Old => show::text(b"where old\n"),
-        Which::Filling => show::text(b"where filling\n"),
-        Which::Edit => show::text(b"where edited\n"),
+        Which::Old => show::text(out, b"where old\n"),
+        Which::Filling => show::text(out, b"where filling\n"),
+        Which::Edit => show::text(out, b"where edited\n"),
     }
 }
 
-fn answer(old: &[u8], goal: u16, filling: &[u8]) {
+fn answer<W: Write>(out: &mut W, old: &[u8], goal: u16, filling: &[u8]) -> io::Result<()> {
     let mut tree = [0u8; TREE];
     let mut goals = [0u8; GOALS];
     let mut props = [0u8; PROPOSITIONS];
@@ -35,12 +37,12 @@ fn answer(old: &[u8], goal: u16, filling: &[u8]) {
         &mut edited,
     ) {
         Filled::Refused(e, which) => {
-            show::refused(e);
-            in_table(which);
+            show::refused(out, e)?;
+            in_table(out, which)
         }
-        Filled::Accepted(c) => {
-            show::tree::whole(&tree, &goals, &props, c.records, c.goals, c.serials, c.made);
-        }
+        Filled::Accepted(c) => show::tree::whole(
+            out, &tree, &goals, &props, c.records, c.goals, c.serials, c.made,
+        ),
     }
 }
 
@@ -50,25 +52,30 @@ fn goal_number(n: usize) -> u16 {
 }
 
 // The answer to the next filling, which is number `count`; or there is none.
-fn next(count: u64) -> bool {
-    let length = next_word();
+fn next<R: Read, W: Write>(from: &mut R, out: &mut W, count: u64) -> io::Result<bool> {
+    let length = next_word(from);
     if length == 0 {
-        return false;
+        return Ok(false);
     }
-    show::heading(count);
+    show::heading(out, count)?;
     let mut old = [0u8; LONGEST];
-    let n = read_table(&mut old, length);
-    let goal = goal_number(next_word());
+    let n = read_table(from, &mut old, length);
+    let goal = goal_number(next_word(from));
     let mut filling = [0u8; LONGEST];
-    let m = read_table(&mut filling, next_word());
-    answer(&old[..n], goal, &filling[..m]);
-    show::text(b"\n");
-    true
+    let more = next_word(from);
+    let m = read_table(from, &mut filling, more);
+    answer(out, &old[..n], goal, &filling[..m])?;
+    show::text(out, b"\n")?;
+    Ok(true)
 }
 
-fn main() {
-    let mut count = 0;
-    while count < u64::MAX && next(count) {
-        count += 1;
+fn main(rt: HostRuntime) -> io::Result<()> {
+    let mut from = rt.stdin();
+    let mut out = show::output(&rt);
+    for count in 0..u64::MAX {
+        if !next(&mut from, &mut out, count)? {
+            break;
+        }
     }
+    out.flush()
 }

@@ -1,0 +1,9 @@
+-- So many bytes are there, and the others are still to come.
+use Rattle.std.proofs.Common.{◌≤◌, ◌-◌, length}
+use Rattle.show.proofs.input.read_full.Given as goal
+
+abbrev pub invariant-loop-done : goal.invariant-loop-done
+invariant-loop-done g l = l.done ≤ length l.room
+
+abbrev pub decreases-loop-done : goal.decreases-loop-done
+decreases-loop-done g l = length l.room - l.done

@@ -37,6 +37,10 @@ fn inspect(rt: &HostRuntime, i: usize, purpose: Purpose) -> io::Result<()> {
     out.flush()
 }
 
+fn usage(rt: &HostRuntime) -> io::Result<()> {
+    eprintln!(rt; "usage: inspect FILE, or inspect -f FILE for a filling")
+}
+
 // Whether the first argument is -f.
 fn is_filling(rt: &HostRuntime) -> bool {
     let mut flag = [0u8; 2];
@@ -56,5 +60,5 @@ fn main(rt: HostRuntime) -> io::Result<()> {
             return inspect(&rt, 2, Purpose::Filling);
         }
     }
-    eprintln!(rt; "usage: inspect FILE, or inspect -f FILE for a filling")
+    usage(&rt)
 }

@@ -2,7 +2,7 @@
 // 32 bits, a byte that says what it is for (0 a check, else a filling), and its bytes. tests/tables/README.md has the rest.
 #![tactic(auto)]
 
-use show::input::{LONGEST, next_byte, next_word, read_table};
+use show::input::{LONGEST, next_word, read_table};
 use std::io;
 use std::io::{Read, Write};
 use table::Purpose;
@@ -14,11 +14,17 @@ fn purpose_of(mode: u8) -> Purpose {
     }
 }
 
+fn next_mode<R: Read>(from: &mut R) -> u8 {
+    let mut mode = [0u8; 1];
+    read_table(from, &mut mode, 1);
+    mode[0]
+}
+
 fn replay<R: Read, W: Write>(from: &mut R, out: &mut W) -> io::Result<()> {
     let mut room = [0u8; LONGEST];
     let mut work = [0u8; table::ROOM];
     let length = next_word(from);
-    let mode = next_byte(from);
+    let mode = next_mode(from);
     let got = read_table(from, &mut room, length);
     show::answer(
         out,

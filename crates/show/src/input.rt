@@ -38,7 +38,7 @@ fn read_full<R: Read>(from: &mut R, room: &mut [u8]) -> usize
 }
 
 // `read_full` does not say why it stopped. At a file's end one more read gives nothing; after a failure it fails again.
-fn failure<R: Read>(from: &mut R) -> io::Result<()> {
+fn fails<R: Read>(from: &mut R) -> io::Result<()> {
     let mut one = [0u8; 1];
     from.read(&mut one)?;
     Ok(())
@@ -50,7 +50,7 @@ fn read_open<R: Files>(rt: &R, path: &str, room: &mut [u8]) -> io::Result<usize>
 {
     let mut file = fs::open(rt, path)?;
     let got = read_full(&mut file, room);
-    failure(&mut file)?;
+    fails(&mut file)?;
     Ok(got)
 }
 
@@ -92,13 +92,6 @@ pub fn next_word<R: Read>(from: &mut R) -> usize {
         return 0;
     }
     wide(four[0]) + 256 * wide(four[1]) + 65536 * wide(four[2]) + 16777216 * wide(four[3])
-}
-
-// The next byte of the input; 0 where the input ends.
-pub fn next_byte<R: Read>(from: &mut R) -> u8 {
-    let mut one = [0u8; 1];
-    read_full(from, &mut one);
-    one[0]
 }
 
 // Whether there was a byte to skip.

@@ -111,7 +111,7 @@ fn write_file<R: Files>(rt: &R, path: &str, bytes: &[u8]) -> io::Result<()> {
     file.write_all(bytes)
 }
 
-// The same of the file of that name.
+// The same of the file that is spelled so; where that fails, standard error says why.
 fn write_named<R: Files + Eprint>(rt: &R, spelled: &[u8], bytes: &[u8]) {
     if let Some(path) = name_of(rt, spelled) {
         if let Err(e) = write_file(rt, path, bytes) {

@@ -10,20 +10,14 @@ begun_as-requires c = (c.requires.ready.base.table.counted, c.requires.ready.her
 pub begin-requires : goal.begin-requires
 begin-requires c = (_, c.requires.ready)
 
-pub begin-requires-in-Check-clause-ready : goal.begin-requires-in-Check-clause-ready
-begin-requires-in-Check-clause-ready c =
+pub begin-requires-in-Check : goal.begin-requires-in-Check
+begin-requires-in-Check c =
     let said = begun_check _ _ _ (sym c.in-Check.is ∙ c.begun_as.ensures) in
-    c.requires.ready
-
-pub begin-requires-in-Check-clause-type_in : goal.begin-requires-in-Check-clause-type_in
-begin-requires-in-Check-clause-type_in c =
-    let said = begun_check _ _ _ (sym c.in-Check.is ∙ c.begun_as.ensures) in
-    subst (WantIn _) said.1 c.requires.want_in
-
-pub begin-requires-in-Check-clause-k_value : goal.begin-requires-in-Check-clause-k_value
-begin-requires-in-Check-clause-k_value c =
-    let said = begun_check _ _ _ (sym c.in-Check.is ∙ c.begun_as.ensures) in
-    said.0
+    record {
+      ready = c.requires.ready;
+      type_in = subst (WantIn _) said.1 c.requires.want_in;
+      k_value = said.0;
+    }
 
 pub returns-in-Synth : goal.returns-in-Synth
 returns-in-Synth c = begins_as _ c.begun_as.ensures c.in-Synth.is c.begin.result (c.begin.ensures _)

@@ -9,13 +9,13 @@ pub slice_bounds-check_table-end : goal.slice_bounds-check_table-end
 slice_bounds-check_table-end c = search tree_long
 
 pub slice_bounds-check_table-end-then-long_enough : goal.slice_bounds-check_table-end-then-long_enough
-slice_bounds-check_table-end-then-long_enough c = let s = c in sym (length-take-le _ s.args.tree.now (search tree_long))
+slice_bounds-check_table-end-then-long_enough c = sym (length-take-le _ c.args.tree.now (search tree_long))
 
 pub slice_bounds-check_table-end-then-long_enough-2 : goal.slice_bounds-check_table-end-then-long_enough-2
 slice_bounds-check_table-end-then-long_enough-2 c = search goals_long
 
 pub slice_bounds-check_table-end-then-long_enough-3 : goal.slice_bounds-check_table-end-then-long_enough-3
-slice_bounds-check_table-end-then-long_enough-3 c = let s = c in sym (length-take-le _ s.args.goals.now (search goals_long))
+slice_bounds-check_table-end-then-long_enough-3 c = sym (length-take-le _ c.args.goals.now (search goals_long))
 
 pub slice_bounds-check_table-end-then-long_enough-4 : goal.slice_bounds-check_table-end-then-long_enough-4
 unfolding limit
@@ -23,28 +23,25 @@ slice_bounds-check_table-end-then-long_enough-4 c = search props_long
 
 pub slice_bounds-check_table-end-then-long_enough-5 : goal.slice_bounds-check_table-end-then-long_enough-5
 unfolding limit
-slice_bounds-check_table-end-then-long_enough-5 c = let s = c in sym (length-take-le _ s.args.props.now (search props_long))
+slice_bounds-check_table-end-then-long_enough-5 c = sym (length-take-le _ c.args.props.now (search props_long))
 
 pub slice_bounds-check_table-end-then-long_enough-6 : goal.slice_bounds-check_table-end-then-long_enough-6
 slice_bounds-check_table-end-then-long_enough-6 c = search work_long
 
 pub slice_bounds-check_table-end-then-long_enough-7 : goal.slice_bounds-check_table-end-then-long_enough-7
-slice_bounds-check_table-end-then-long_enough-7 c = let s = c in sym (length-take-le _ s.args.work.now (search work_long))
+slice_bounds-check_table-end-then-long_enough-7 c = sym (length-take-le _ c.args.work.now (search work_long))
 
 pub check_table-requires : goal.check_table-requires
 unfolding limit
 check_table-requires c =
-    let s = c in
-    firsts_exact (rooms s.args.tree.now s.args.goals.now s.args.props.now s.args.work.now) (search long_true)
+    firsts_exact (rooms c.args.tree.now c.args.goals.now c.args.props.now c.args.work.now) (search long_true)
 
 pub returns-then-long_enough : goal.returns-then-long_enough
 unfolding limit
 returns-then-long_enough c =
-    let s = c in
     let done = c.check_table in
-    marks_long s.args.file.now _ (rooms s.args.tree.now s.args.goals.now s.args.props.now s.args.work.now) (rooms done.new.tree done.new.goals done.new.props done.new.work) (search long_true) done.ensures
+    marks_long c.args.file.now _ (rooms c.args.tree.now c.args.goals.now c.args.props.now c.args.work.now) (rooms done.new.tree done.new.goals done.new.props done.new.work) (search long_true) done.ensures
 
 pub returns-else-long_enough : goal.returns-else-long_enough
 returns-else-long_enough c =
-    let s = c in
-    marks_short s.args.file.now (rooms s.args.tree.now s.args.goals.now s.args.props.now s.args.work.now) _ _ (search long_false) c.clear_rooms.ensures c.new.ensures
+    marks_short c.args.file.now (rooms c.args.tree.now c.args.goals.now c.args.props.now c.args.work.now) _ _ (search long_false) c.clear_rooms.ensures c.new.ensures

@@ -6,47 +6,30 @@ use Rattle.entry.proofs.check_table.Goals as goal
 
 pub returns-in-Refused : goal.returns-in-Refused
 returns-in-Refused c =
-    let s = c in
     let tested = c.test_table in
-    table_refused s.args.file.now (rooms s.args.tree.now s.args.goals.now s.args.props.now s.args.work.now) _ _ _ _ c.in-Refused.is s.requires (record { tree = s.requires.tree; goals = s.requires.goals; props = s.requires.props; work = tested.auto.work ∙ s.requires.work }) tested.ensures c.clear_rooms.ensures
+    table_refused c.args.file.now (rooms c.args.tree.now c.args.goals.now c.args.props.now c.args.work.now) _ _ _ _ c.in-Refused.is c.requires (record { tree = c.requires.tree; goals = c.requires.goals; props = c.requires.props; work = tested.auto.work ∙ c.requires.work }) tested.ensures c.clear_rooms.ensures
 
-pub run-answer-requires-clause-good : goal.run-answer-requires-clause-good
-run-answer-requires-clause-good c =
-    let s = c in
+pub run-answer-requires : goal.run-answer-requires
+run-answer-requires c =
     let tested = c.test_table in
-    search table_good
+    record {
+      good = search table_good;
+      exact = (record { tree = c.requires.tree; goals = c.requires.goals; props = c.requires.props; work = tested.auto.work ∙ c.requires.work });
+    }
 
-pub run-answer-requires-clause-exact : goal.run-answer-requires-clause-exact
-run-answer-requires-clause-exact c =
-    let s = c in
-    let tested = c.test_table in
-    (record { tree = s.requires.tree; goals = s.requires.goals; props = s.requires.props; work = tested.auto.work ∙ s.requires.work })
-
-pub finish-requires-clause-in_bounds : goal.finish-requires-clause-in_bounds
-finish-requires-clause-in_bounds c =
-    let s = c in
+pub finish-requires : goal.finish-requires
+finish-requires c =
     let tested = c.test_table in
     let run = c.run-answer in
-    header_there s.args.file.now (search table_good)
-
-pub finish-requires-clause-exact : goal.finish-requires-clause-exact
-finish-requires-clause-exact c =
-    let s = c in
-    let tested = c.test_table in
-    let run = c.run-answer in
-    (record { tree = run.auto.tree ∙ s.requires.tree; goals = run.auto.goals ∙ s.requires.goals; props = run.auto.props ∙ s.requires.props; work = run.auto.work ∙ tested.auto.work ∙ s.requires.work })
-
-pub finish-requires-clause-ran_as : goal.finish-requires-clause-ran_as
-finish-requires-clause-ran_as c =
-    let s = c in
-    let tested = c.test_table in
-    let run = c.run-answer in
-    run.ensures
+    record {
+      in_bounds = header_there c.args.file.now (search table_good);
+      exact = (record { tree = run.auto.tree ∙ c.requires.tree; goals = run.auto.goals ∙ c.requires.goals; props = run.auto.props ∙ c.requires.props; work = run.auto.work ∙ tested.auto.work ∙ c.requires.work });
+      ran_as = run.ensures;
+    }
 
 pub returns : goal.returns
 returns c =
-    let s = c in
     let tested = c.test_table in
     let run = c.run-answer in
-    table_marked s.args.file.now (rooms s.args.tree.now s.args.goals.now s.args.props.now s.args.work.now) _ _ _ s.requires (record { tree = run.auto.tree ∙ s.requires.tree; goals = run.auto.goals ∙ s.requires.goals; props = run.auto.props ∙ s.requires.props; work = run.auto.work ∙ tested.auto.work ∙ s.requires.work })
-    (table_good s.args.file.now _ _ _ c.in_default.is s.requires.work tested.ensures) c.finish.ensures
+    table_marked c.args.file.now (rooms c.args.tree.now c.args.goals.now c.args.props.now c.args.work.now) _ _ _ c.requires (record { tree = run.auto.tree ∙ c.requires.tree; goals = run.auto.goals ∙ c.requires.goals; props = run.auto.props ∙ c.requires.props; work = run.auto.work ∙ tested.auto.work ∙ c.requires.work })
+    (table_good c.args.file.now _ _ _ c.in_default.is c.requires.work tested.ensures) c.finish.ensures

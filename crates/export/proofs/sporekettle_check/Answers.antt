@@ -8,11 +8,9 @@ use Rattle.export.proofs.sporekettle_check.Goals as goal
 
 pub returns-then-answer-lt-ANSWER : goal.returns-then-answer-lt-ANSWER
 returns-then-answer-lt-ANSWER c =
-    let s = c in
-    returns_short Mark (Marks s.args.file.now (rooms s.args.tree.now s.args.goals.now s.args.props.now s.args.work.now) (rooms s.args.tree.now s.args.goals.now s.args.props.now s.args.work.now)) mark_record _ s.args.answer.now c.if-answer-lt-ANSWER.true refl
+    returns_short Mark (Marks c.args.file.now (rooms c.args.tree.now c.args.goals.now c.args.props.now c.args.work.now) (rooms c.args.tree.now c.args.goals.now c.args.props.now c.args.work.now)) mark_record _ c.args.answer.now c.if-answer-lt-ANSWER.true refl
 
 pub returns : goal.returns
 returns c =
-    let s = c in
     let run = c.check-mark in
-    returns_written Mark (Marks s.args.file.now (rooms s.args.tree.now s.args.goals.now s.args.props.now s.args.work.now) (rooms run.new.tree run.new.goals run.new.props run.new.work)) mark_record _ s.args.answer.now _ run.result _ c.if-answer-lt-ANSWER.false run.ensures c.of_mark.ensures c.put.ensures
+    returns_written Mark (Marks c.args.file.now (rooms c.args.tree.now c.args.goals.now c.args.props.now c.args.work.now) (rooms run.new.tree run.new.goals run.new.props run.new.work)) mark_record _ c.args.answer.now _ run.result _ c.if-answer-lt-ANSWER.false run.ensures c.of_mark.ensures c.put.ensures

@@ -8,11 +8,9 @@ use Rattle.export.proofs.sporekettle_test_filling.Goals as goal
 
 pub returns-then-answer-lt-ANSWER : goal.returns-then-answer-lt-ANSWER
 returns-then-answer-lt-ANSWER c =
-    let s = c in
-    returns_short Verdict (Tested Filling s.args.file.now s.args.work.now s.args.work.now) verdict_record _ s.args.answer.now c.if-answer-lt-ANSWER.true refl
+    returns_short Verdict (Tested Filling c.args.file.now c.args.work.now c.args.work.now) verdict_record _ c.args.answer.now c.if-answer-lt-ANSWER.true refl
 
 pub returns : goal.returns
 returns c =
-    let s = c in
     let run = c.test_table-verdict in
-    returns_written Verdict (Tested Filling s.args.file.now s.args.work.now run.new.work) verdict_record _ s.args.answer.now _ run.result _ c.if-answer-lt-ANSWER.false run.ensures c.of_verdict.ensures c.put.ensures
+    returns_written Verdict (Tested Filling c.args.file.now c.args.work.now run.new.work) verdict_record _ c.args.answer.now _ run.result _ c.if-answer-lt-ANSWER.false run.ensures c.of_verdict.ensures c.put.ensures

@@ -8,69 +8,43 @@ use Rattle.filling.proofs.fill_goal.Goals as goal
 
 pub returns-in-Refused : goal.returns-in-Refused
 returns-in-Refused c =
-    let s = c in
-    let old = s.requires.old_ran in
-    let x = s.requires.exact_all in
+    let old = c.requires.old_ran in
+    let x = c.requires.exact_all in
     let tested = c.test_table in
-    let y : ExactAll (lent s.args.tree.now s.args.goals.now s.args.props.now tested.new.work s.args.edited.now) =
+    let y : ExactAll (lent c.args.tree.now c.args.goals.now c.args.props.now tested.new.work c.args.edited.now) =
     record { rooms = record { tree = x.rooms.tree; goals = x.rooms.goals; props = x.rooms.props; work = tested.auto.work ∙ x.rooms.work }; edited = x.edited } in
-    filling_refused s.args.old.now s.args.filling.now s.args.goal (lent s.args.tree.now s.args.goals.now s.args.props.now s.args.work.now s.args.edited.now) _ _ x y tested.result _ tested.ensures _ _ c.in-Refused.is c.refuse.ensures
+    filling_refused c.args.old.now c.args.filling.now c.args.goal (lent c.args.tree.now c.args.goals.now c.args.props.now c.args.work.now c.args.edited.now) _ _ x y tested.result _ tested.ensures _ _ c.in-Refused.is c.refuse.ensures
 
 pub returns-then-count-goal : goal.returns-then-count-goal
 returns-then-count-goal c =
-    let s = c in
-    let old = s.requires.old_ran in
-    let x = s.requires.exact_all in
+    let old = c.requires.old_ran in
+    let x = c.requires.exact_all in
     let tested = c.test_table in
-    let y : ExactAll (lent s.args.tree.now s.args.goals.now s.args.props.now tested.new.work s.args.edited.now) =
+    let y : ExactAll (lent c.args.tree.now c.args.goals.now c.args.props.now tested.new.work c.args.edited.now) =
     record { rooms = record { tree = x.rooms.tree; goals = x.rooms.goals; props = x.rooms.props; work = tested.auto.work ∙ x.rooms.work }; edited = x.edited } in
-    goal_missing s.args.old.now s.args.filling.now s.args.goal (lent s.args.tree.now s.args.goals.now s.args.props.now s.args.work.now s.args.edited.now) _ _ x y tested.result _ tested.ensures _ c.in_default.is s.args.count old c.if-count-goal.true _ c.new-e.ensures c.refuse-then-count-goal.ensures
+    goal_missing c.args.old.now c.args.filling.now c.args.goal (lent c.args.tree.now c.args.goals.now c.args.props.now c.args.work.now c.args.edited.now) _ _ x y tested.result _ tested.ensures _ c.in_default.is c.args.count old c.if-count-goal.true _ c.new-e.ensures c.refuse-then-count-goal.ensures
 
-pub fill_hole-requires-clause-fillable : goal.fill_hole-requires-clause-fillable
-fill_hole-requires-clause-fillable c =
-    let s = c in
-    let old = s.requires.old_ran in
-    let x = s.requires.exact_all in
+pub fill_hole-requires : goal.fill_hole-requires
+fill_hole-requires c =
+    let old = c.requires.old_ran in
+    let x = c.requires.exact_all in
     let tested = c.test_table in
-    let y : ExactAll (lent s.args.tree.now s.args.goals.now s.args.props.now tested.new.work s.args.edited.now) =
+    let y : ExactAll (lent c.args.tree.now c.args.goals.now c.args.props.now tested.new.work c.args.edited.now) =
     record { rooms = record { tree = x.rooms.tree; goals = x.rooms.goals; props = x.rooms.props; work = tested.auto.work ∙ x.rooms.work }; edited = x.edited } in
     let there = c.if-count-goal.false in
-    let hole = hole_at s.args.old.now s.args.filling.now (rooms s.args.tree.now s.args.goals.now s.args.props.now s.args.work.now) s.args.count s.args.goal old (omega (arith, there)) c.goal_at-g.result c.goal_at-g.ensures in
-    let good = filling_good s.args.filling.now s.args.work.now _ tested.result x.rooms.work tested.ensures c.in_default.is in
-    hole_fillable s.args.old.now s.args.filling.now s.args.goal _ old.good good hole
-
-pub fill_hole-requires-clause-hole_at : goal.fill_hole-requires-clause-hole_at
-fill_hole-requires-clause-hole_at c =
-    let s = c in
-    let old = s.requires.old_ran in
-    let x = s.requires.exact_all in
-    let tested = c.test_table in
-    let y : ExactAll (lent s.args.tree.now s.args.goals.now s.args.props.now tested.new.work s.args.edited.now) =
-    record { rooms = record { tree = x.rooms.tree; goals = x.rooms.goals; props = x.rooms.props; work = tested.auto.work ∙ x.rooms.work }; edited = x.edited } in
-    let there = c.if-count-goal.false in
-    let hole = hole_at s.args.old.now s.args.filling.now (rooms s.args.tree.now s.args.goals.now s.args.props.now s.args.work.now) s.args.count s.args.goal old (omega (arith, there)) c.goal_at-g.result c.goal_at-g.ensures in
-    let good = filling_good s.args.filling.now s.args.work.now _ tested.result x.rooms.work tested.ensures c.in_default.is in
-    hole
-
-pub fill_hole-requires-clause-exact_all : goal.fill_hole-requires-clause-exact_all
-fill_hole-requires-clause-exact_all c =
-    let s = c in
-    let old = s.requires.old_ran in
-    let x = s.requires.exact_all in
-    let tested = c.test_table in
-    let y : ExactAll (lent s.args.tree.now s.args.goals.now s.args.props.now tested.new.work s.args.edited.now) =
-    record { rooms = record { tree = x.rooms.tree; goals = x.rooms.goals; props = x.rooms.props; work = tested.auto.work ∙ x.rooms.work }; edited = x.edited } in
-    let there = c.if-count-goal.false in
-    let hole = hole_at s.args.old.now s.args.filling.now (rooms s.args.tree.now s.args.goals.now s.args.props.now s.args.work.now) s.args.count s.args.goal old (omega (arith, there)) c.goal_at-g.result c.goal_at-g.ensures in
-    let good = filling_good s.args.filling.now s.args.work.now _ tested.result x.rooms.work tested.ensures c.in_default.is in
-    y
+    let hole = hole_at c.args.old.now c.args.filling.now (rooms c.args.tree.now c.args.goals.now c.args.props.now c.args.work.now) c.args.count c.args.goal old (omega (arith, there)) c.goal_at-g.result c.goal_at-g.ensures in
+    let good = filling_good c.args.filling.now c.args.work.now _ tested.result x.rooms.work tested.ensures c.in_default.is in
+    record {
+      fillable = hole_fillable c.args.old.now c.args.filling.now c.args.goal _ old.good good hole;
+      hole_at = hole;
+      exact_all = y;
+    }
 
 pub returns : goal.returns
 returns c =
-    let s = c in
-    let old = s.requires.old_ran in
-    let x = s.requires.exact_all in
+    let old = c.requires.old_ran in
+    let x = c.requires.exact_all in
     let tested = c.test_table in
-    let y : ExactAll (lent s.args.tree.now s.args.goals.now s.args.props.now tested.new.work s.args.edited.now) =
+    let y : ExactAll (lent c.args.tree.now c.args.goals.now c.args.props.now tested.new.work c.args.edited.now) =
     record { rooms = record { tree = x.rooms.tree; goals = x.rooms.goals; props = x.rooms.props; work = tested.auto.work ∙ x.rooms.work }; edited = x.edited } in
-    goal_found s.args.old.now s.args.filling.now s.args.goal (lent s.args.tree.now s.args.goals.now s.args.props.now s.args.work.now s.args.edited.now) _ _ x y tested.result _ tested.ensures _ c.in_default.is s.args.count old (omega (arith, c.if-count-goal.false)) c.fill_hole.ensures
+    goal_found c.args.old.now c.args.filling.now c.args.goal (lent c.args.tree.now c.args.goals.now c.args.props.now c.args.work.now c.args.edited.now) _ _ x y tested.result _ tested.ensures _ c.in_default.is c.args.count old (omega (arith, c.if-count-goal.false)) c.fill_hole.ensures

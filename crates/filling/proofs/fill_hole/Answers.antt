@@ -13,196 +13,112 @@ use Rattle.filling.proofs.Parts.{room_long, part_fits, part_is, bytes_take}
 use Rattle.filling.proofs.Stages.{edited_refused, edited_run}
 use Rattle.filling.proofs.fill_hole.Goals as goal
 
-pub edited_size-size-requires-clause-counted : goal.edited_size-size-requires-clause-counted
-edited_size-size-requires-clause-counted c = let t = both_tested c.requires.fillable in t.0
-
-pub edited_size-size-requires-clause-counted_2 : goal.edited_size-size-requires-clause-counted_2
-edited_size-size-requires-clause-counted_2 c = let t = both_tested c.requires.fillable in t.1.0
+pub edited_size-size-requires : goal.edited_size-size-requires
+edited_size-size-requires c = let t = both_tested c.requires.fillable in
+    record {
+      counted = t.0;
+      counted_2 = t.1.0;
+    }
 
 pub slice_bounds-edit-end-2 : goal.slice_bounds-edit-end-2
 slice_bounds-edit-end-2 c =
-    let s = c in
     let size = c.edited_size-size in
-    sym (length-take-le size.result s.args.edited.now (omega (arith, size.ensures.1, s.requires.exact_all.edited)))
+    sym (length-take-le size.result c.args.edited.now (omega (arith, size.ensures.1, c.requires.exact_all.edited)))
 
-pub edit-requires-clause-fillable : goal.edit-requires-clause-fillable
-edit-requires-clause-fillable c =
-    let s = c in
+pub edit-requires : goal.edit-requires
+edit-requires c =
     let size = c.edited_size-size in
-    s.requires.fillable
-
-pub edit-requires-clause-table_len : goal.edit-requires-clause-table_len
-edit-requires-clause-table_len c =
-    let s = c in
-    let size = c.edited_size-size in
-    length-take-le size.result s.args.edited.now (omega (arith, size.ensures.1, s.requires.exact_all.edited)) ∙ size.ensures.0
+    record {
+      fillable = c.requires.fillable;
+      table_len = length-take-le size.result c.args.edited.now (omega (arith, size.ensures.1, c.requires.exact_all.edited)) ∙ size.ensures.0;
+    }
 
 pub slice_bounds-test_edited-end-2 : goal.slice_bounds-test_edited-end-2
 slice_bounds-test_edited-end-2 c =
-    let s = c in
-    let h = s.requires.fillable in
-    let x = s.requires.exact_all in
+    let h = c.requires.fillable in
+    let x = c.requires.exact_all in
     let size = c.edited_size-size in
-    let fit : size.result ≤ length s.args.edited.now = omega (arith, size.ensures.1, x.edited) in
+    let fit : size.result ≤ length c.args.edited.now = omega (arith, size.ensures.1, x.edited) in
     let edit = c.edit in
-    let part = part_is size.result s.args.edited.now edit.new.table fit edit.auto.table in
-    let E : Edited s.args.old.now s.args.filling.now s.args.hole.0 (take size.result (edit.new.table ++ drop size.result s.args.edited.now)) =
-    subst⁻¹ (Edited s.args.old.now s.args.filling.now s.args.hole.0) part edit.ensures in
-    sym (length-take-le size.result (edit.new.table ++ drop size.result s.args.edited.now) (part_fits size.result s.args.edited.now edit.new.table fit edit.auto.table))
+    let part = part_is size.result c.args.edited.now edit.new.table fit edit.auto.table in
+    let E : Edited c.args.old.now c.args.filling.now c.args.hole.0 (take size.result (edit.new.table ++ drop size.result c.args.edited.now)) =
+    subst⁻¹ (Edited c.args.old.now c.args.filling.now c.args.hole.0) part edit.ensures in
+    sym (length-take-le size.result (edit.new.table ++ drop size.result c.args.edited.now) (part_fits size.result c.args.edited.now edit.new.table fit edit.auto.table))
 
-pub test_edited-requires-clause-in_bounds : goal.test_edited-requires-clause-in_bounds
-test_edited-requires-clause-in_bounds c =
-    let s = c in
-    let h = s.requires.fillable in
-    let x = s.requires.exact_all in
+pub test_edited-requires : goal.test_edited-requires
+test_edited-requires c =
+    let h = c.requires.fillable in
+    let x = c.requires.exact_all in
     let size = c.edited_size-size in
-    let fit : size.result ≤ length s.args.edited.now = omega (arith, size.ensures.1, x.edited) in
+    let fit : size.result ≤ length c.args.edited.now = omega (arith, size.ensures.1, x.edited) in
     let edit = c.edit in
-    let part = part_is size.result s.args.edited.now edit.new.table fit edit.auto.table in
-    let E : Edited s.args.old.now s.args.filling.now s.args.hole.0 (take size.result (edit.new.table ++ drop size.result s.args.edited.now)) =
-    subst⁻¹ (Edited s.args.old.now s.args.filling.now s.args.hole.0) part edit.ensures in
-    (omega (arith, E.size), omega (arith, x.rooms.work))
-
-pub test_edited-requires-clause-well_linked : goal.test_edited-requires-clause-well_linked
-test_edited-requires-clause-well_linked c =
-    let s = c in
-    let h = s.requires.fillable in
-    let x = s.requires.exact_all in
-    let size = c.edited_size-size in
-    let fit : size.result ≤ length s.args.edited.now = omega (arith, size.ensures.1, x.edited) in
-    let edit = c.edit in
-    let part = part_is size.result s.args.edited.now edit.new.table fit edit.auto.table in
-    let E : Edited s.args.old.now s.args.filling.now s.args.hole.0 (take size.result (edit.new.table ++ drop size.result s.args.edited.now)) =
-    subst⁻¹ (Edited s.args.old.now s.args.filling.now s.args.hole.0) part edit.ensures in
-    record { purpose = Check; linked = edited_in_order h E }
+    let part = part_is size.result c.args.edited.now edit.new.table fit edit.auto.table in
+    let E : Edited c.args.old.now c.args.filling.now c.args.hole.0 (take size.result (edit.new.table ++ drop size.result c.args.edited.now)) =
+    subst⁻¹ (Edited c.args.old.now c.args.filling.now c.args.hole.0) part edit.ensures in
+    record {
+      in_bounds = (omega (arith, E.size), omega (arith, x.rooms.work));
+      well_linked = record { purpose = Check; linked = edited_in_order h E };
+    }
 
 pub returns-in-Refused : goal.returns-in-Refused
 returns-in-Refused c =
-    let s = c in
-    let h = s.requires.fillable in
-    let x = s.requires.exact_all in
+    let h = c.requires.fillable in
+    let x = c.requires.exact_all in
     let size = c.edited_size-size in
-    let fit : size.result ≤ length s.args.edited.now = omega (arith, size.ensures.1, x.edited) in
+    let fit : size.result ≤ length c.args.edited.now = omega (arith, size.ensures.1, x.edited) in
     let edit = c.edit in
-    let bytes = bytes_take size.result (edit.new.table ++ drop size.result s.args.edited.now) (λ i. omega (arith, c.slice_known-6-1.given i)) in
-    let part = part_is size.result s.args.edited.now edit.new.table fit edit.auto.table in
-    let E : Edited s.args.old.now s.args.filling.now s.args.hole.0 (take size.result (edit.new.table ++ drop size.result s.args.edited.now)) =
-    subst⁻¹ (Edited s.args.old.now s.args.filling.now s.args.hole.0) part edit.ensures in
+    let bytes = bytes_take size.result (edit.new.table ++ drop size.result c.args.edited.now) (λ i. omega (arith, c.slice_known-6-1.given i)) in
+    let part = part_is size.result c.args.edited.now edit.new.table fit edit.auto.table in
+    let E : Edited c.args.old.now c.args.filling.now c.args.hole.0 (take size.result (edit.new.table ++ drop size.result c.args.edited.now)) =
+    subst⁻¹ (Edited c.args.old.now c.args.filling.now c.args.hole.0) part edit.ensures in
     let tested = c.test_edited in
-    let y : ExactAll (lent s.args.tree.now s.args.goals.now s.args.props.now tested.new.work (edit.new.table ++ drop size.result s.args.edited.now)) =
+    let y : ExactAll (lent c.args.tree.now c.args.goals.now c.args.props.now tested.new.work (edit.new.table ++ drop size.result c.args.edited.now)) =
     record {
       rooms = record { tree = x.rooms.tree; goals = x.rooms.goals; props = x.rooms.props; work = tested.auto.work ∙ x.rooms.work };
-      edited = room_long size.result s.args.edited.now edit.new.table fit edit.auto.table ∙ x.edited;
+      edited = room_long size.result c.args.edited.now edit.new.table fit edit.auto.table ∙ x.edited;
     } in
-    edited_refused s.args.old.now s.args.filling.now s.args.goal s.args.hole.0 s.requires.hole_at (lent s.args.tree.now s.args.goals.now s.args.props.now s.args.work.now s.args.edited.now) _ _ x y _ bytes E tested.result tested.ensures _ _ c.in-Refused.is c.refuse.ensures
+    edited_refused c.args.old.now c.args.filling.now c.args.goal c.args.hole.0 c.requires.hole_at (lent c.args.tree.now c.args.goals.now c.args.props.now c.args.work.now c.args.edited.now) _ _ x y _ bytes E tested.result tested.ensures _ _ c.in-Refused.is c.refuse.ensures
 
-pub run_filling-requires-clause-fillable : goal.run_filling-requires-clause-fillable
-run_filling-requires-clause-fillable c =
-    let s = c in
-    let h = s.requires.fillable in
-    let x = s.requires.exact_all in
+pub run_filling-requires : goal.run_filling-requires
+run_filling-requires c =
+    let h = c.requires.fillable in
+    let x = c.requires.exact_all in
     let size = c.edited_size-size in
-    let fit : size.result ≤ length s.args.edited.now = omega (arith, size.ensures.1, x.edited) in
+    let fit : size.result ≤ length c.args.edited.now = omega (arith, size.ensures.1, x.edited) in
     let edit = c.edit in
-    let part = part_is size.result s.args.edited.now edit.new.table fit edit.auto.table in
-    let E : Edited s.args.old.now s.args.filling.now s.args.hole.0 (take size.result (edit.new.table ++ drop size.result s.args.edited.now)) =
-    subst⁻¹ (Edited s.args.old.now s.args.filling.now s.args.hole.0) part edit.ensures in
+    let part = part_is size.result c.args.edited.now edit.new.table fit edit.auto.table in
+    let E : Edited c.args.old.now c.args.filling.now c.args.hole.0 (take size.result (edit.new.table ++ drop size.result c.args.edited.now)) =
+    subst⁻¹ (Edited c.args.old.now c.args.filling.now c.args.hole.0) part edit.ensures in
     let tested = c.test_edited in
-    let y : ExactAll (lent s.args.tree.now s.args.goals.now s.args.props.now tested.new.work (edit.new.table ++ drop size.result s.args.edited.now)) =
+    let y : ExactAll (lent c.args.tree.now c.args.goals.now c.args.props.now tested.new.work (edit.new.table ++ drop size.result c.args.edited.now)) =
     record {
       rooms = record { tree = x.rooms.tree; goals = x.rooms.goals; props = x.rooms.props; work = tested.auto.work ∙ x.rooms.work };
-      edited = room_long size.result s.args.edited.now edit.new.table fit edit.auto.table ∙ x.edited;
-    } in h
-
-pub run_filling-requires-clause-hole_at : goal.run_filling-requires-clause-hole_at
-run_filling-requires-clause-hole_at c =
-    let s = c in
-    let h = s.requires.fillable in
-    let x = s.requires.exact_all in
-    let size = c.edited_size-size in
-    let fit : size.result ≤ length s.args.edited.now = omega (arith, size.ensures.1, x.edited) in
-    let edit = c.edit in
-    let part = part_is size.result s.args.edited.now edit.new.table fit edit.auto.table in
-    let E : Edited s.args.old.now s.args.filling.now s.args.hole.0 (take size.result (edit.new.table ++ drop size.result s.args.edited.now)) =
-    subst⁻¹ (Edited s.args.old.now s.args.filling.now s.args.hole.0) part edit.ensures in
-    let tested = c.test_edited in
-    let y : ExactAll (lent s.args.tree.now s.args.goals.now s.args.props.now tested.new.work (edit.new.table ++ drop size.result s.args.edited.now)) =
+      edited = room_long size.result c.args.edited.now edit.new.table fit edit.auto.table ∙ x.edited;
+    } in
     record {
-      rooms = record { tree = x.rooms.tree; goals = x.rooms.goals; props = x.rooms.props; work = tested.auto.work ∙ x.rooms.work };
-      edited = room_long size.result s.args.edited.now edit.new.table fit edit.auto.table ∙ x.edited;
-    } in s.requires.hole_at
-
-pub run_filling-requires-clause-size_in_bounds : goal.run_filling-requires-clause-size_in_bounds
-run_filling-requires-clause-size_in_bounds c =
-    let s = c in
-    let h = s.requires.fillable in
-    let x = s.requires.exact_all in
-    let size = c.edited_size-size in
-    let fit : size.result ≤ length s.args.edited.now = omega (arith, size.ensures.1, x.edited) in
-    let edit = c.edit in
-    let part = part_is size.result s.args.edited.now edit.new.table fit edit.auto.table in
-    let E : Edited s.args.old.now s.args.filling.now s.args.hole.0 (take size.result (edit.new.table ++ drop size.result s.args.edited.now)) =
-    subst⁻¹ (Edited s.args.old.now s.args.filling.now s.args.hole.0) part edit.ensures in
-    let tested = c.test_edited in
-    let y : ExactAll (lent s.args.tree.now s.args.goals.now s.args.props.now tested.new.work (edit.new.table ++ drop size.result s.args.edited.now)) =
-    record {
-      rooms = record { tree = x.rooms.tree; goals = x.rooms.goals; props = x.rooms.props; work = tested.auto.work ∙ x.rooms.work };
-      edited = room_long size.result s.args.edited.now edit.new.table fit edit.auto.table ∙ x.edited;
-    } in (part_fits size.result s.args.edited.now edit.new.table fit edit.auto.table, E)
-
-pub run_filling-requires-clause-good : goal.run_filling-requires-clause-good
-run_filling-requires-clause-good c =
-    let s = c in
-    let h = s.requires.fillable in
-    let x = s.requires.exact_all in
-    let size = c.edited_size-size in
-    let fit : size.result ≤ length s.args.edited.now = omega (arith, size.ensures.1, x.edited) in
-    let edit = c.edit in
-    let part = part_is size.result s.args.edited.now edit.new.table fit edit.auto.table in
-    let E : Edited s.args.old.now s.args.filling.now s.args.hole.0 (take size.result (edit.new.table ++ drop size.result s.args.edited.now)) =
-    subst⁻¹ (Edited s.args.old.now s.args.filling.now s.args.hole.0) part edit.ensures in
-    let tested = c.test_edited in
-    let y : ExactAll (lent s.args.tree.now s.args.goals.now s.args.props.now tested.new.work (edit.new.table ++ drop size.result s.args.edited.now)) =
-    record {
-      rooms = record { tree = x.rooms.tree; goals = x.rooms.goals; props = x.rooms.props; work = tested.auto.work ∙ x.rooms.work };
-      edited = room_long size.result s.args.edited.now edit.new.table fit edit.auto.table ∙ x.edited;
-    } in edited_good h E (sym tested.ensures ∙ c.in_default.is)
-
-pub run_filling-requires-clause-exact_all : goal.run_filling-requires-clause-exact_all
-run_filling-requires-clause-exact_all c =
-    let s = c in
-    let h = s.requires.fillable in
-    let x = s.requires.exact_all in
-    let size = c.edited_size-size in
-    let fit : size.result ≤ length s.args.edited.now = omega (arith, size.ensures.1, x.edited) in
-    let edit = c.edit in
-    let part = part_is size.result s.args.edited.now edit.new.table fit edit.auto.table in
-    let E : Edited s.args.old.now s.args.filling.now s.args.hole.0 (take size.result (edit.new.table ++ drop size.result s.args.edited.now)) =
-    subst⁻¹ (Edited s.args.old.now s.args.filling.now s.args.hole.0) part edit.ensures in
-    let tested = c.test_edited in
-    let y : ExactAll (lent s.args.tree.now s.args.goals.now s.args.props.now tested.new.work (edit.new.table ++ drop size.result s.args.edited.now)) =
-    record {
-      rooms = record { tree = x.rooms.tree; goals = x.rooms.goals; props = x.rooms.props; work = tested.auto.work ∙ x.rooms.work };
-      edited = room_long size.result s.args.edited.now edit.new.table fit edit.auto.table ∙ x.edited;
-    } in y
+      fillable = h;
+      hole_at = c.requires.hole_at;
+      size_in_bounds = (part_fits size.result c.args.edited.now edit.new.table fit edit.auto.table, E);
+      good = edited_good h E (sym tested.ensures ∙ c.in_default.is);
+      exact_all = y;
+    }
 
 pub returns : goal.returns
 returns c =
-    let s = c in
-    let h = s.requires.fillable in
-    let x = s.requires.exact_all in
+    let h = c.requires.fillable in
+    let x = c.requires.exact_all in
     let size = c.edited_size-size in
-    let fit : size.result ≤ length s.args.edited.now = omega (arith, size.ensures.1, x.edited) in
+    let fit : size.result ≤ length c.args.edited.now = omega (arith, size.ensures.1, x.edited) in
     let edit = c.edit in
-    let bytes = bytes_take size.result (edit.new.table ++ drop size.result s.args.edited.now) (λ i. omega (arith, c.slice_known-6-1.given i)) in
-    let part = part_is size.result s.args.edited.now edit.new.table fit edit.auto.table in
-    let E : Edited s.args.old.now s.args.filling.now s.args.hole.0 (take size.result (edit.new.table ++ drop size.result s.args.edited.now)) =
-    subst⁻¹ (Edited s.args.old.now s.args.filling.now s.args.hole.0) part edit.ensures in
+    let bytes = bytes_take size.result (edit.new.table ++ drop size.result c.args.edited.now) (λ i. omega (arith, c.slice_known-6-1.given i)) in
+    let part = part_is size.result c.args.edited.now edit.new.table fit edit.auto.table in
+    let E : Edited c.args.old.now c.args.filling.now c.args.hole.0 (take size.result (edit.new.table ++ drop size.result c.args.edited.now)) =
+    subst⁻¹ (Edited c.args.old.now c.args.filling.now c.args.hole.0) part edit.ensures in
     let tested = c.test_edited in
-    let y : ExactAll (lent s.args.tree.now s.args.goals.now s.args.props.now tested.new.work (edit.new.table ++ drop size.result s.args.edited.now)) =
+    let y : ExactAll (lent c.args.tree.now c.args.goals.now c.args.props.now tested.new.work (edit.new.table ++ drop size.result c.args.edited.now)) =
     record {
       rooms = record { tree = x.rooms.tree; goals = x.rooms.goals; props = x.rooms.props; work = tested.auto.work ∙ x.rooms.work };
-      edited = room_long size.result s.args.edited.now edit.new.table fit edit.auto.table ∙ x.edited;
+      edited = room_long size.result c.args.edited.now edit.new.table fit edit.auto.table ∙ x.edited;
     } in
-    edited_run s.args.old.now s.args.filling.now s.args.goal s.args.hole.0 s.requires.hole_at (lent s.args.tree.now s.args.goals.now s.args.props.now s.args.work.now s.args.edited.now) _ _ x y _ bytes E tested.result tested.ensures _ c.in_default.is
+    edited_run c.args.old.now c.args.filling.now c.args.goal c.args.hole.0 c.requires.hole_at (lent c.args.tree.now c.args.goals.now c.args.props.now c.args.work.now c.args.edited.now) _ _ x y _ bytes E tested.result tested.ensures _ c.in_default.is
     c.run_filling.ensures

@@ -7,10 +7,8 @@ use Rattle.table.proofs.test_table.Goals as goal
 
 pub returns-then-work-lt-ROOM : goal.returns-then-work-lt-ROOM
 returns-then-work-lt-ROOM c =
-    let cleared = c in
-    let short = cleared in
-    let a = short.args in
-    tested_short a.purpose a.file.now a.work.now _ _ short.if-work-lt-ROOM.true cleared.clear.ensures c.new.ensures
+    let a = c.args in
+    tested_short a.purpose a.file.now a.work.now _ _ c.if-work-lt-ROOM.true c.clear.ensures c.new.ensures
 
 pub slice_bounds-run_tests-end-2 : goal.slice_bounds-run_tests-end-2
 slice_bounds-run_tests-end-2 c = sym (length-take-le test_room c.args.work.now c.if-work-lt-ROOM.false)
@@ -20,10 +18,7 @@ run_tests-answer-requires c = omega (arith, length-take-le test_room c.args.work
 
 pub returns : goal.returns
 returns c =
-    let cleared = c in
-    let ran = cleared in
-    let long = ran in
-    let a = long.args in
-    let r = ran.run_tests-answer in
-    tested_long a.purpose a.file.now a.work.now r.new.work _ r.result long.if-work-lt-ROOM.false r.ensures (r.auto.work ∙ length-take-le test_room c.args.work.now c.if-work-lt-ROOM.false)
-    cleared.clear-2.ensures
+    let a = c.args in
+    let r = c.run_tests-answer in
+    tested_long a.purpose a.file.now a.work.now r.new.work _ r.result c.if-work-lt-ROOM.false r.ensures (r.auto.work ∙ length-take-le test_room c.args.work.now c.if-work-lt-ROOM.false)
+    c.clear-2.ensures

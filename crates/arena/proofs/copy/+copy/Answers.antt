@@ -15,25 +15,13 @@ copy-second-requires t c = (search second_below, (search first_arena, (search se
 
 pub one_more-requires-in-2-to-4-clause-count_lt_most_records : goal.one_more-requires-in-2-to-4-clause-count_lt_most_records
 one_more-requires-in-2-to-4-clause-count_lt_most_records t c =
-    let at-copy2 = c in
-    let at_copy = at-copy2 in
-    let then2 = at_copy in
-    let else1 = then2 in
-    let at-node-at = else1 in
-    let start = at-node-at in
-    let pre = start.requires in
-    link_fits _ _ _ pre.arena pre.n_lt_count pre.by_index pre.most_records_in_bounds _ at-node-at.node_at-r.ensures (omega arith) (omega arith) _ _ _ _ at_copy.copy-first.ensures _ _ at-copy2.copy-second.ensures
+    let pre = c.requires in
+    link_fits _ _ _ pre.arena pre.n_lt_count pre.by_index pre.most_records_in_bounds _ c.node_at-r.ensures (omega arith) (omega arith) _ _ _ _ c.copy-first.ensures _ _ c.copy-second.ensures
 
 pub one_more-requires-in-2-to-4-clause-most_records_in_bounds : goal.one_more-requires-in-2-to-4-clause-most_records_in_bounds
 one_more-requires-in-2-to-4-clause-most_records_in_bounds t c =
-    let at-copy2 = c in
-    let at_copy = at-copy2 in
-    let then2 = at_copy in
-    let else1 = then2 in
-    let at-node-at = else1 in
-    let start = at-node-at in
-    let pre = start.requires in
-    second_long _ _ _ pre.arena pre.n_lt_count pre.by_index pre.most_records_in_bounds _ at-node-at.node_at-r.ensures (omega arith) (omega arith) _ _ _ _ at_copy.copy-first.ensures _ _ at-copy2.copy-second.ensures
+    let pre = c.requires in
+    second_long _ _ _ pre.arena pre.n_lt_count pre.by_index pre.most_records_in_bounds _ c.node_at-r.ensures (omega arith) (omega arith) _ _ _ _ c.copy-first.ensures _ _ c.copy-second.ensures
 
 pub overflow_add-d : goal.overflow_add-d
 overflow_add-d t c = search deeper_fits
@@ -61,33 +49,15 @@ returns-in-0-to-1 t c = search copy_constant
 
 pub returns-in-2-to-4 : goal.returns-in-2-to-4
 returns-in-2-to-4 t c =
-    let at-one-more2 = c in
-    let at-copy2 = at-one-more2 in
-    let at_copy = at-copy2 in
-    let then2 = at_copy in
-    let else1 = then2 in
-    let at-node-at = else1 in
-    let start = at-node-at in
-    let pre = start.requires in
-    copy_link _ _ _ pre.arena pre.n_lt_count pre.by_index pre.most_records_in_bounds _ at-node-at.node_at-r.ensures (omega arith) (omega arith) _ _ _ _ at_copy.copy-first.ensures _ _ at-copy2.copy-second.ensures _ _ at-one-more2.one_more-in-2-to-4.ensures
+    let pre = c.requires in
+    copy_link _ _ _ pre.arena pre.n_lt_count pre.by_index pre.most_records_in_bounds _ c.node_at-r.ensures (omega arith) (omega arith) _ _ _ _ c.copy-first.ensures _ _ c.copy-second.ensures _ _ c.one_more-in-2-to-4.ensures
 
 pub returns-in-5-to-6 : goal.returns-in-5-to-6
 returns-in-5-to-6 t c =
-    let at-one-more3 = c in
-    let at-copy3 = at-one-more3 in
-    let then3 = at-copy3 in
-    let else2 = then3 in
-    let at-node-at = else2 in
-    let start = at-node-at in
-    let pre = start.requires in
-    copy_quant _ _ _ pre.arena pre.n_lt_count pre.by_index pre.most_records_in_bounds _ at-node-at.node_at-r.ensures (omega arith) (omega arith) _ _ _ _ at-copy3.copy-body.ensures _ _ at-one-more3.one_more-in-5-to-6.ensures
+    let pre = c.requires in
+    copy_quant _ _ _ pre.arena pre.n_lt_count pre.by_index pre.most_records_in_bounds _ c.node_at-r.ensures (omega arith) (omega arith) _ _ _ _ c.copy-body.ensures _ _ c.one_more-in-5-to-6.ensures
 
 pub returns-in-7-to-255 : goal.returns-in-7-to-255
 returns-in-7-to-255 t c =
-    let at-one-more4 = c in
-    let at-change-atom = at-one-more4 in
-    let else3 = at-change-atom in
-    let at-node-at = else3 in
-    let start = at-node-at in
-    let pre = start.requires in
-    copy_atom _ _ _ pre.arena pre.n_lt_count pre.by_index pre.most_records_in_bounds _ at-node-at.node_at-r.ensures (omega arith) _ _ _ at-change-atom.change_atom-q.ensures _ _ at-one-more4.one_more-in-7-to-255.ensures
+    let pre = c.requires in
+    copy_atom _ _ _ pre.arena pre.n_lt_count pre.by_index pre.most_records_in_bounds _ c.node_at-r.ensures (omega arith) _ _ _ c.change_atom-q.ensures _ _ c.one_more-in-7-to-255.ensures

@@ -8,13 +8,9 @@ returns-then-r-le1 c = search atom_of_one
 
 pub returns : goal.returns
 returns c =
-    let fourth = c in
-    let third = fourth in
-    let second = third in
-    let first = second in
-    let pre = first.requires in
+    let pre = c.requires in
     atom_changed _ _ pre.kind_value pre.r_value _
     (all_changed (changed c.args.work.now c.args.change c.args.d) _ _ _ _ _ _ _ _ _ _
-    first.parameter_at.ensures second.parameter_at-2.ensures third.parameter_at-3.ensures fourth.parameter_at-4.ensures
-    first.change_parameter-p.ensures second.change_parameter-q.ensures third.change_parameter-s.ensures fourth.change_parameter-t.ensures
+    c.parameter_at.ensures c.parameter_at-2.ensures c.parameter_at-3.ensures c.parameter_at-4.ensures
+    c.change_parameter-p.ensures c.change_parameter-q.ensures c.change_parameter-s.ensures c.change_parameter-t.ensures
     c.with_parameters-2.ensures)

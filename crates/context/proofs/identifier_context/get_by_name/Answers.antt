@@ -8,17 +8,13 @@ loop-i-init c = (search rules, λ f. refl)
 
 pub returns-then-e-name : goal.returns-then-e-name
 returns-then-e-name c =
-    let r = c in
-    let h = r in
-    let a = h.args in
-    latest_here a.work.now a.len h.loop-i.i a.name.0 r.entry_at-e.result (search rules) (search rules) h.loop-i.invariant.1 r.entry_at-e.ensures c.if-e-name.true
+    let a = c.args in
+    latest_here a.work.now a.len c.loop-i.i a.name.0 c.entry_at-e.result (search rules) (search rules) c.loop-i.invariant.1 c.entry_at-e.ensures c.if-e-name.true
 
 pub loop-i-preserved : goal.loop-i-preserved
 loop-i-preserved c =
-    let r = c in
-    let h = r in
-    let a = h.args in
-    (search rules, decides_past a.work.now a.len h.loop-i.i a.name.0 r.entry_at-e.result (search rules) h.loop-i.invariant.1 r.entry_at-e.ensures c.if-e-name.false)
+    let a = c.args in
+    (search rules, decides_past a.work.now a.len c.loop-i.i a.name.0 c.entry_at-e.result (search rules) c.loop-i.invariant.1 c.entry_at-e.ensures c.if-e-name.false)
 
 pub returns : goal.returns
 returns c =

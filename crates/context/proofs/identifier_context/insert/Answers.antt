@@ -16,16 +16,11 @@ put_word-requires-4 c = omega arith
 
 pub returns : goal.returns
 returns c =
-    let p₄ = c in
-    let p₃ = p₄ in
-    let p₂ = p₃ in
-    let p₁ = p₂ in
-    let start = p₁ in
-    let a = start.args in
-    inserted a.work.now _ _ _ _ a.len a.e _ _ start.requires
-    p₁.put_word.ensures
-    p₂.put_word-2.ensures
-    p₃.tag_of.ensures
-    p₃.put_word-3.ensures
-    p₄.number_of.ensures
-    p₄.put_word-4.ensures
+    let a = c.args in
+    inserted a.work.now _ _ _ _ a.len a.e _ _ c.requires
+    c.put_word.ensures
+    c.put_word-2.ensures
+    c.tag_of.ensures
+    c.put_word-3.ensures
+    c.number_of.ensures
+    c.put_word-4.ensures

@@ -3,7 +3,7 @@ use Rattle.entry.proofs.rooms.clear_rest.Goals as goal
 
 pub trim-requires-3 : goal.trim-requires-3
 unfolding limit
-trim-requires-3 c = let s = c in (s.requires.count_bound.0, s.requires.count_bound.1)
+trim-requires-3 c = (c.requires.count_bound.0, c.requires.count_bound.1)
 
 pub returns : goal.returns
 unfolding limit

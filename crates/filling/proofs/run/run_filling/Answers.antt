@@ -13,52 +13,45 @@ use Rattle.filling.specs.Steps.{ExactAll}
 use Rattle.filling.proofs.run.run_filling.Goals as goal
 
 pub slice_bounds-reach-end-2 : goal.slice_bounds-reach-end-2
-slice_bounds-reach-end-2 c = let s = c in sym (length-take-le s.args.size s.args.edited.now s.requires.size_in_bounds.0)
+slice_bounds-reach-end-2 c = sym (length-take-le c.args.size c.args.edited.now c.requires.size_in_bounds.0)
 
 pub reach-start-requires-clause-fillable : goal.reach-start-requires-clause-fillable
 reach-start-requires-clause-fillable c =
-    let s = c in
-    s.requires.fillable
+    c.requires.fillable
 
 pub reach-start-requires-clause-hole_at : goal.reach-start-requires-clause-hole_at
 reach-start-requires-clause-hole_at c =
-    let s = c in
-    s.requires.hole_at
+    c.requires.hole_at
 
 pub reach-start-requires-clause-edited : goal.reach-start-requires-clause-edited
 reach-start-requires-clause-edited c =
-    let s = c in
-    (s.requires.size_in_bounds.1, (good_passed s.requires.good).counted)
+    (c.requires.size_in_bounds.1, (good_passed c.requires.good).counted)
 
 pub reach-start-requires-clause-exact : goal.reach-start-requires-clause-exact
 reach-start-requires-clause-exact c =
-    let s = c in
-    s.requires.exact_all.rooms
+    c.requires.exact_all.rooms
 
 pub slice_bounds-check-end : goal.slice_bounds-check-end
 slice_bounds-check-end c =
-    let s = c in
-    let fit = s.requires.size_in_bounds.0 in
+    let fit = c.requires.size_in_bounds.0 in
     let reached = c.reach-start in
-    let whole : (reached.new.table ++ drop s.args.size s.args.edited.now) ≡ s.args.edited.now = room_same s.args.size s.args.edited.now reached.new.table reached.ensures.0 in
+    let whole : (reached.new.table ++ drop c.args.size c.args.edited.now) ≡ c.args.edited.now = room_same c.args.size c.args.edited.now reached.new.table reached.ensures.0 in
     omega (arith, fit, ap length whole)
 
 pub slice_bounds-check-end-2 : goal.slice_bounds-check-end-2
 slice_bounds-check-end-2 c =
-    let s = c in
-    let fit = s.requires.size_in_bounds.0 in
+    let fit = c.requires.size_in_bounds.0 in
     let reached = c.reach-start in
-    let whole : (reached.new.table ++ drop s.args.size s.args.edited.now) ≡ s.args.edited.now = room_same s.args.size s.args.edited.now reached.new.table reached.ensures.0 in
-    sym (length-take-le s.args.size (reached.new.table ++ drop s.args.size s.args.edited.now) (omega (arith, fit, ap length whole)))
+    let whole : (reached.new.table ++ drop c.args.size c.args.edited.now) ≡ c.args.edited.now = room_same c.args.size c.args.edited.now reached.new.table reached.ensures.0 in
+    sym (length-take-le c.args.size (reached.new.table ++ drop c.args.size c.args.edited.now) (omega (arith, fit, ap length whole)))
 
 pub check-answer-requires : goal.check-answer-requires
 check-answer-requires c =
-    let s = c in
-    let fit = s.requires.size_in_bounds.0 in
+    let fit = c.requires.size_in_bounds.0 in
     let reached = c.reach-start in
-    let whole : (reached.new.table ++ drop s.args.size s.args.edited.now) ≡ s.args.edited.now = room_same s.args.size s.args.edited.now reached.new.table reached.ensures.0 in
-    let x = s.requires.exact_all in
-    let same : (take s.args.size (reached.new.table ++ drop s.args.size s.args.edited.now)) ≡ (take s.args.size s.args.edited.now) = ap (take s.args.size) whole in
+    let whole : (reached.new.table ++ drop c.args.size c.args.edited.now) ≡ c.args.edited.now = room_same c.args.size c.args.edited.now reached.new.table reached.ensures.0 in
+    let x = c.requires.exact_all in
+    let same : (take c.args.size (reached.new.table ++ drop c.args.size c.args.edited.now)) ≡ (take c.args.size c.args.edited.now) = ap (take c.args.size) whole in
     let y : Exact (rooms reached.new.tree reached.new.goals reached.new.props reached.new.work) =
     record {
       tree = reached.auto.tree ∙ x.rooms.tree;
@@ -66,17 +59,16 @@ check-answer-requires c =
       props = reached.auto.props ∙ x.rooms.props;
       work = reached.auto.work ∙ x.rooms.work;
     } in
-    let all = hole_ready s.args.old.now s.args.goal s.args.hole.0 s.requires.hole_at (take s.args.size s.args.edited.now) (take s.args.size (reached.new.table ++ drop s.args.size s.args.edited.now)) same (rooms reached.new.tree reached.new.goals reached.new.props reached.new.work) reached.result reached.ensures.1 in
+    let all = hole_ready c.args.old.now c.args.goal c.args.hole.0 c.requires.hole_at (take c.args.size c.args.edited.now) (take c.args.size (reached.new.table ++ drop c.args.size c.args.edited.now)) same (rooms reached.new.tree reached.new.goals reached.new.props reached.new.work) reached.result reached.ensures.1 in
     record { ready = all.0; type_in = all.1 }
 
-pub finish-requires-clause-exact_all : goal.finish-requires-clause-exact_all
-finish-requires-clause-exact_all c =
-    let s = c in
-    let fit = s.requires.size_in_bounds.0 in
+pub finish-requires : goal.finish-requires
+finish-requires c =
+    let fit = c.requires.size_in_bounds.0 in
     let reached = c.reach-start in
-    let whole : (reached.new.table ++ drop s.args.size s.args.edited.now) ≡ s.args.edited.now = room_same s.args.size s.args.edited.now reached.new.table reached.ensures.0 in
-    let x = s.requires.exact_all in
-    let same : (take s.args.size (reached.new.table ++ drop s.args.size s.args.edited.now)) ≡ (take s.args.size s.args.edited.now) = ap (take s.args.size) whole in
+    let whole : (reached.new.table ++ drop c.args.size c.args.edited.now) ≡ c.args.edited.now = room_same c.args.size c.args.edited.now reached.new.table reached.ensures.0 in
+    let x = c.requires.exact_all in
+    let same : (take c.args.size (reached.new.table ++ drop c.args.size c.args.edited.now)) ≡ (take c.args.size c.args.edited.now) = ap (take c.args.size) whole in
     let y : Exact (rooms reached.new.tree reached.new.goals reached.new.props reached.new.work) =
     record {
       tree = reached.auto.tree ∙ x.rooms.tree;
@@ -85,8 +77,8 @@ finish-requires-clause-exact_all c =
       work = reached.auto.work ∙ x.rooms.work;
     } in
     let ran = c.check-answer in
-    let few = few_nodes s.requires.fillable s.requires.size_in_bounds.1 in
-    let z : ExactAll (lent ran.new.tree ran.new.goals ran.new.props ran.new.work (reached.new.table ++ drop s.args.size s.args.edited.now)) =
+    let few = few_nodes c.requires.fillable c.requires.size_in_bounds.1 in
+    let z : ExactAll (lent ran.new.tree ran.new.goals ran.new.props ran.new.work (reached.new.table ++ drop c.args.size c.args.edited.now)) =
     record {
       rooms =
           record {
@@ -97,82 +89,23 @@ finish-requires-clause-exact_all c =
           };
       edited = ap length whole ∙ x.edited;
     } in
-    let long = length-take-le s.args.size s.args.edited.now fit in
-    z
-
-pub finish-requires-clause-fitting : goal.finish-requires-clause-fitting
-finish-requires-clause-fitting c =
-    let s = c in
-    let fit = s.requires.size_in_bounds.0 in
-    let reached = c.reach-start in
-    let whole : (reached.new.table ++ drop s.args.size s.args.edited.now) ≡ s.args.edited.now = room_same s.args.size s.args.edited.now reached.new.table reached.ensures.0 in
-    let x = s.requires.exact_all in
-    let same : (take s.args.size (reached.new.table ++ drop s.args.size s.args.edited.now)) ≡ (take s.args.size s.args.edited.now) = ap (take s.args.size) whole in
-    let y : Exact (rooms reached.new.tree reached.new.goals reached.new.props reached.new.work) =
+    let long = length-take-le c.args.size c.args.edited.now fit in
     record {
-      tree = reached.auto.tree ∙ x.rooms.tree;
-      goals = reached.auto.goals ∙ x.rooms.goals;
-      props = reached.auto.props ∙ x.rooms.props;
-      work = reached.auto.work ∙ x.rooms.work;
-    } in
-    let ran = c.check-answer in
-    let few = few_nodes s.requires.fillable s.requires.size_in_bounds.1 in
-    let z : ExactAll (lent ran.new.tree ran.new.goals ran.new.props ran.new.work (reached.new.table ++ drop s.args.size s.args.edited.now)) =
-    record {
-      rooms =
-          record {
-            tree = ran.auto.tree ∙ y.tree;
-            goals = ran.auto.goals ∙ y.goals;
-            props = ran.auto.props ∙ y.props;
-            work = ran.auto.work ∙ y.work;
-          };
-      edited = ap length whole ∙ x.edited;
-    } in
-    let long = length-take-le s.args.size s.args.edited.now fit in
-    hole_fits s.args.old.now s.args.goal s.args.hole.0 s.requires.hole_at (take s.args.size s.args.edited.now) (take s.args.size (reached.new.table ++ drop s.args.size s.args.edited.now)) same (rooms reached.new.tree reached.new.goals reached.new.props reached.new.work) reached.result reached.ensures.1 y few (rooms ran.new.tree ran.new.goals ran.new.props ran.new.work) ran.result ran.ensures s.args.size (omega (arith, long, s.requires.size_in_bounds.1.size)) z.rooms
-
-pub finish-requires-clause-size_in_bounds : goal.finish-requires-clause-size_in_bounds
-finish-requires-clause-size_in_bounds c =
-    let s = c in
-    let fit = s.requires.size_in_bounds.0 in
-    let reached = c.reach-start in
-    let whole : (reached.new.table ++ drop s.args.size s.args.edited.now) ≡ s.args.edited.now = room_same s.args.size s.args.edited.now reached.new.table reached.ensures.0 in
-    let x = s.requires.exact_all in
-    let same : (take s.args.size (reached.new.table ++ drop s.args.size s.args.edited.now)) ≡ (take s.args.size s.args.edited.now) = ap (take s.args.size) whole in
-    let y : Exact (rooms reached.new.tree reached.new.goals reached.new.props reached.new.work) =
-    record {
-      tree = reached.auto.tree ∙ x.rooms.tree;
-      goals = reached.auto.goals ∙ x.rooms.goals;
-      props = reached.auto.props ∙ x.rooms.props;
-      work = reached.auto.work ∙ x.rooms.work;
-    } in
-    let ran = c.check-answer in
-    let few = few_nodes s.requires.fillable s.requires.size_in_bounds.1 in
-    let z : ExactAll (lent ran.new.tree ran.new.goals ran.new.props ran.new.work (reached.new.table ++ drop s.args.size s.args.edited.now)) =
-    record {
-      rooms =
-          record {
-            tree = ran.auto.tree ∙ y.tree;
-            goals = ran.auto.goals ∙ y.goals;
-            props = ran.auto.props ∙ y.props;
-            work = ran.auto.work ∙ y.work;
-          };
-      edited = ap length whole ∙ x.edited;
-    } in
-    let long = length-take-le s.args.size s.args.edited.now fit in
-    omega (arith, fit, ap length whole)
+      exact_all = z;
+      fitting = hole_fits c.args.old.now c.args.goal c.args.hole.0 c.requires.hole_at (take c.args.size c.args.edited.now) (take c.args.size (reached.new.table ++ drop c.args.size c.args.edited.now)) same (rooms reached.new.tree reached.new.goals reached.new.props reached.new.work) reached.result reached.ensures.1 y few (rooms ran.new.tree ran.new.goals ran.new.props ran.new.work) ran.result ran.ensures c.args.size (omega (arith, long, c.requires.size_in_bounds.1.size)) z.rooms;
+      size_in_bounds = omega (arith, fit, ap length whole);
+    }
 
 pub shape_of-tree : goal.shape_of-tree
 shape_of-tree c = c.finish.auto.tree ∙ c.check-answer.auto.tree ∙ c.reach-start.auto.tree
 
 pub returns : goal.returns
 returns c =
-    let s = c in
-    let fit = s.requires.size_in_bounds.0 in
+    let fit = c.requires.size_in_bounds.0 in
     let reached = c.reach-start in
-    let whole : (reached.new.table ++ drop s.args.size s.args.edited.now) ≡ s.args.edited.now = room_same s.args.size s.args.edited.now reached.new.table reached.ensures.0 in
-    let x = s.requires.exact_all in
-    let same : (take s.args.size (reached.new.table ++ drop s.args.size s.args.edited.now)) ≡ (take s.args.size s.args.edited.now) = ap (take s.args.size) whole in
+    let whole : (reached.new.table ++ drop c.args.size c.args.edited.now) ≡ c.args.edited.now = room_same c.args.size c.args.edited.now reached.new.table reached.ensures.0 in
+    let x = c.requires.exact_all in
+    let same : (take c.args.size (reached.new.table ++ drop c.args.size c.args.edited.now)) ≡ (take c.args.size c.args.edited.now) = ap (take c.args.size) whole in
     let y : Exact (rooms reached.new.tree reached.new.goals reached.new.props reached.new.work) =
     record {
       tree = reached.auto.tree ∙ x.rooms.tree;
@@ -181,8 +114,8 @@ returns c =
       work = reached.auto.work ∙ x.rooms.work;
     } in
     let ran = c.check-answer in
-    let few = few_nodes s.requires.fillable s.requires.size_in_bounds.1 in
-    let z : ExactAll (lent ran.new.tree ran.new.goals ran.new.props ran.new.work (reached.new.table ++ drop s.args.size s.args.edited.now)) =
+    let few = few_nodes c.requires.fillable c.requires.size_in_bounds.1 in
+    let z : ExactAll (lent ran.new.tree ran.new.goals ran.new.props ran.new.work (reached.new.table ++ drop c.args.size c.args.edited.now)) =
     record {
       rooms =
           record {
@@ -193,4 +126,4 @@ returns c =
           };
       edited = ap length whole ∙ x.edited;
     } in
-    run_from s.args.old.now s.args.goal (take s.args.size s.args.edited.now) (take s.args.size (reached.new.table ++ drop s.args.size s.args.edited.now)) same (lent s.args.tree.now s.args.goals.now s.args.props.now s.args.work.now s.args.edited.now) _ _ x z _ ran.result _ c.finish.ensures (λ g goal. hole_meets s.args.old.now s.args.goal s.args.hole.0 s.requires.hole_at (take s.args.size s.args.edited.now) (take s.args.size (reached.new.table ++ drop s.args.size s.args.edited.now)) same (rooms reached.new.tree reached.new.goals reached.new.props reached.new.work) reached.result reached.ensures.1 y few (rooms ran.new.tree ran.new.goals ran.new.props ran.new.work) ran.result ran.ensures g goal)
+    run_from c.args.old.now c.args.goal (take c.args.size c.args.edited.now) (take c.args.size (reached.new.table ++ drop c.args.size c.args.edited.now)) same (lent c.args.tree.now c.args.goals.now c.args.props.now c.args.work.now c.args.edited.now) _ _ x z _ ran.result _ c.finish.ensures (λ g goal. hole_meets c.args.old.now c.args.goal c.args.hole.0 c.requires.hole_at (take c.args.size c.args.edited.now) (take c.args.size (reached.new.table ++ drop c.args.size c.args.edited.now)) same (rooms reached.new.tree reached.new.goals reached.new.props reached.new.work) reached.result reached.ensures.1 y few (rooms ran.new.tree ran.new.goals ran.new.props ran.new.work) ran.result ran.ensures g goal)

@@ -3,29 +3,23 @@ use Rattle.step.proofs.Bounds.{base_header, base_count}
 use Rattle.step.proofs.Moves.{loaded_arena, loaded_type}
 use Rattle.rule.proofs.check.hold.Goals as goal
 
-pub count_of-requires-clause-in_bounds : goal.count_of-requires-clause-in_bounds
-count_of-requires-clause-in_bounds c = let base = settle_base c.requires.ended c.requires.k_value in base_header base
+pub count_of-requires : goal.count_of-requires
+count_of-requires c = let base = settle_base c.requires.ended c.requires.k_value in
+    record {
+      in_bounds = base_header base;
+      st_bound = base_count base;
+    }
 
-pub count_of-requires-clause-st_bound : goal.count_of-requires-clause-st_bound
-count_of-requires-clause-st_bound c = let base = settle_base c.requires.ended c.requires.k_value in base_count base
-
-pub compare_types-requires-clause-arena : goal.compare_types-requires-clause-arena
-compare_types-requires-clause-arena c =
+pub compare_types-requires : goal.compare_types-requires
+compare_types-requires c =
     let file = c.args.file.now in
     let s = c.args.s in
-    let n = c.count_of.ensures in loaded_arena file c.args.props.now s _ n (settle_base c.requires.ended c.requires.k_value).loaded
-
-pub compare_types-requires-clause-type_in : goal.compare_types-requires-clause-type_in
-compare_types-requires-clause-type_in c =
-    let file = c.args.file.now in
-    let s = c.args.s in
-    let n = c.count_of.ensures in loaded_type file s _ c.args.t n (settle_type c.requires.ended c.requires.k_value)
-
-pub compare_types-requires-clause-type_in_2 : goal.compare_types-requires-clause-type_in_2
-compare_types-requires-clause-type_in_2 c =
-    let file = c.args.file.now in
-    let s = c.args.s in
-    let n = c.count_of.ensures in loaded_type file s _ c.args.wanted n (settle_wanted c.requires.ended c.requires.k_value)
+    let n = c.count_of.ensures in
+    record {
+      arena = loaded_arena file c.args.props.now s _ n (settle_base c.requires.ended c.requires.k_value).loaded;
+      type_in = loaded_type file s _ c.args.t n (settle_type c.requires.ended c.requires.k_value);
+      type_in_2 = loaded_type file s _ c.args.wanted n (settle_wanted c.requires.ended c.requires.k_value);
+    }
 
 pub shift-requires-clause-from_le_to : goal.shift-requires-clause-from_le_to
 shift-requires-clause-from_le_to c =

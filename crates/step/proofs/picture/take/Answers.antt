@@ -8,8 +8,7 @@ copy_entries-requires c =
     let third = c.put_word-3 in
     let second = c.put_word-2 in
     let first = c.put_word in
-    let start = c in
-    let all = copy_there start.args.work.now insert.new.work start.args.st.context (insert.auto.work ∙ third.auto.b ∙ second.auto.b ∙ first.auto.b) start.requires.0 start.requires.1 in
+    let all = copy_there c.args.work.now insert.new.work c.args.st.context (insert.auto.work ∙ third.auto.b ∙ second.auto.b ∙ first.auto.b) c.requires.0 c.requires.1 in
     record { n_in_bounds = all.0; fact = all.1 }
 
 pub returns : goal.returns

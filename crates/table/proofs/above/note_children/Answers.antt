@@ -9,10 +9,7 @@ note-requires-2 c = search left_fits
 
 pub note-requires-3 : goal.note-requires-3
 note-requires-3 c =
-    let second = c in
-    let first = second in
-    let shape = first in
-    right_fits _ _ shape.prop_shape-s.ensures _ _ shape.requires _ first.note.ensures _ _ second.note-2.ensures
+    right_fits _ _ c.prop_shape-s.ensures _ _ c.requires _ c.note.ensures _ _ c.note-2.ensures
 
 pub returns : goal.returns
 returns c = search children_noted

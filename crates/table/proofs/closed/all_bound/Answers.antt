@@ -4,8 +4,4 @@ use Rattle.table.proofs.closed.all_bound.Goals as goal
 
 pub returns : goal.returns
 returns c =
-    let third = c in
-    let second = third in
-    let first = second in
-    let s = first in
-    all_params s.args.file.now s.args.n.0 s.args.r _ _ _ _ (search rules) first.is_bound-first.ensures second.is_bound-second.ensures third.is_bound-third.ensures c.is_bound-fourth.ensures
+    all_params c.args.file.now c.args.n.0 c.args.r _ _ _ _ (search rules) c.is_bound-first.ensures c.is_bound-second.ensures c.is_bound-third.ensures c.is_bound-fourth.ensures

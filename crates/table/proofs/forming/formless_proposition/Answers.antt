@@ -17,17 +17,15 @@ loop-n-init c = (search rules, first_start _ _)
 
 pub returns-then-not-prop_form : goal.returns-then-not-prop_form
 returns-then-not-prop_form c =
-    let h = c in
-    let file = h.args.file.now in
-    let e : guilty file h.loop-n.n ≡ true = cc in
-    sym (h.loop-n.invariant.1 ∙ first_here (guilty file) h.loop-n.n h.args.p (search rules) e)
+    let file = c.args.file.now in
+    let e : guilty file c.loop-n.n ≡ true = cc in
+    sym (c.loop-n.invariant.1 ∙ first_here (guilty file) c.loop-n.n c.args.p (search rules) e)
 
 pub loop-n-preserved : goal.loop-n-preserved
 loop-n-preserved c =
-    let h = c in
-    let file = h.args.file.now in
-    let e : guilty file h.loop-n.n ≡ false = cc in
-    (search rules, h.loop-n.invariant.1 ∙ first_past (guilty file) h.loop-n.n h.args.p (search rules) e)
+    let file = c.args.file.now in
+    let e : guilty file c.loop-n.n ≡ false = cc in
+    (search rules, c.loop-n.invariant.1 ∙ first_past (guilty file) c.loop-n.n c.args.p (search rules) e)
 
 pub returns : goal.returns
 returns c =

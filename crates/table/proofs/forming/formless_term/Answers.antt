@@ -17,17 +17,15 @@ loop-t-init c = (search rules, first_start _ _)
 
 pub returns-then-not-term_form : goal.returns-then-not-term_form
 returns-then-not-term_form c =
-    let h = c in
-    let file = h.args.file.now in
-    let e : guilty file h.loop-t.t ≡ true = cc in
-    sym (h.loop-t.invariant.1 ∙ first_here (guilty file) h.loop-t.t h.args.count (search rules) e)
+    let file = c.args.file.now in
+    let e : guilty file c.loop-t.t ≡ true = cc in
+    sym (c.loop-t.invariant.1 ∙ first_here (guilty file) c.loop-t.t c.args.count (search rules) e)
 
 pub loop-t-preserved : goal.loop-t-preserved
 loop-t-preserved c =
-    let h = c in
-    let file = h.args.file.now in
-    let e : guilty file h.loop-t.t ≡ false = cc in
-    (search rules, h.loop-t.invariant.1 ∙ first_past (guilty file) h.loop-t.t h.args.count (search rules) e)
+    let file = c.args.file.now in
+    let e : guilty file c.loop-t.t ≡ false = cc in
+    (search rules, c.loop-t.invariant.1 ∙ first_past (guilty file) c.loop-t.t c.args.count (search rules) e)
 
 pub returns : goal.returns
 returns c =

@@ -17,17 +17,15 @@ loop-n-init c = (search rules, first_start _ _)
 
 pub returns-then-not-prop_links_ok-work : goal.returns-then-not-prop_links_ok-work
 returns-then-not-prop_links_ok-work c =
-    let h = c in
-    let a = h.args in
-    let e : guilty a.file.now a.work.now h.loop-n.n ≡ true = cc in
-    sym (h.loop-n.invariant.1 ∙ first_here (guilty a.file.now a.work.now) h.loop-n.n a.p (search rules) e)
+    let a = c.args in
+    let e : guilty a.file.now a.work.now c.loop-n.n ≡ true = cc in
+    sym (c.loop-n.invariant.1 ∙ first_here (guilty a.file.now a.work.now) c.loop-n.n a.p (search rules) e)
 
 pub loop-n-preserved : goal.loop-n-preserved
 loop-n-preserved c =
-    let h = c in
-    let a = h.args in
-    let e : guilty a.file.now a.work.now h.loop-n.n ≡ false = cc in
-    (search rules, h.loop-n.invariant.1 ∙ first_past (guilty a.file.now a.work.now) h.loop-n.n a.p (search rules) e)
+    let a = c.args in
+    let e : guilty a.file.now a.work.now c.loop-n.n ≡ false = cc in
+    (search rules, c.loop-n.invariant.1 ∙ first_past (guilty a.file.now a.work.now) c.loop-n.n a.p (search rules) e)
 
 pub returns : goal.returns
 returns c =

@@ -18,19 +18,17 @@ loop-t-init c = (search rules, first_start _ _)
 
 pub returns-then-not-term_links_ok-t : goal.returns-then-not-term_links_ok-t
 returns-then-not-term_links_ok-t c =
-    let h = c in
-    let a = h.args in
-    let e : guilty a.file.now a.work.now a.p h.loop-t.t ≡ true =
-    ap (λ (ok : Bool). not (ok && (eqb h.loop-t.t 0 || eqb (get_or a.work.now (a.p + h.loop-t.t) 0) 1))) (sym (c.term_links_ok.ensures ∙ term_ok c.args.file.now c.loop-t.t c.args.p c.args.count c.term_at-r.result c.term_at-r.ensures c.requires.0 c.requires.1)) ∙ ap not c.if-not-term_links_ok-t.true in
-    sym (h.loop-t.invariant.1 ∙ first_here (guilty a.file.now a.work.now a.p) h.loop-t.t a.count (search rules) e)
+    let a = c.args in
+    let e : guilty a.file.now a.work.now a.p c.loop-t.t ≡ true =
+    ap (λ (ok : Bool). not (ok && (eqb c.loop-t.t 0 || eqb (get_or a.work.now (a.p + c.loop-t.t) 0) 1))) (sym (c.term_links_ok.ensures ∙ term_ok c.args.file.now c.loop-t.t c.args.p c.args.count c.term_at-r.result c.term_at-r.ensures c.requires.0 c.requires.1)) ∙ ap not c.if-not-term_links_ok-t.true in
+    sym (c.loop-t.invariant.1 ∙ first_here (guilty a.file.now a.work.now a.p) c.loop-t.t a.count (search rules) e)
 
 pub loop-t-preserved : goal.loop-t-preserved
 loop-t-preserved c =
-    let h = c in
-    let a = h.args in
-    let e : guilty a.file.now a.work.now a.p h.loop-t.t ≡ false =
-    ap (λ (ok : Bool). not (ok && (eqb h.loop-t.t 0 || eqb (get_or a.work.now (a.p + h.loop-t.t) 0) 1))) (sym (c.term_links_ok.ensures ∙ term_ok c.args.file.now c.loop-t.t c.args.p c.args.count c.term_at-r.result c.term_at-r.ensures c.requires.0 c.requires.1)) ∙ ap not c.if-not-term_links_ok-t.false in
-    (search rules, h.loop-t.invariant.1 ∙ first_past (guilty a.file.now a.work.now a.p) h.loop-t.t a.count (search rules) e)
+    let a = c.args in
+    let e : guilty a.file.now a.work.now a.p c.loop-t.t ≡ false =
+    ap (λ (ok : Bool). not (ok && (eqb c.loop-t.t 0 || eqb (get_or a.work.now (a.p + c.loop-t.t) 0) 1))) (sym (c.term_links_ok.ensures ∙ term_ok c.args.file.now c.loop-t.t c.args.p c.args.count c.term_at-r.result c.term_at-r.ensures c.requires.0 c.requires.1)) ∙ ap not c.if-not-term_links_ok-t.false in
+    (search rules, c.loop-t.invariant.1 ∙ first_past (guilty a.file.now a.work.now a.p) c.loop-t.t a.count (search rules) e)
 
 pub returns : goal.returns
 returns c =

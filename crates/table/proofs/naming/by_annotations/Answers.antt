@@ -24,10 +24,9 @@ pub loop-t-preserved : goal.loop-t-preserved
 loop-t-preserved c =
     let a = c.args in
     let file = a.file.now in
-    let h = c in
     let r = c.term_at-r.result in
-    let e : r ≡ term_record file h.loop-t.t = c.term_at-r.ensures ∙ ap (λ (k : ℕ). as_term (record_at file (k + h.loop-t.t + 1))) c.requires.0 in
-    (names_step 0 a.p h.loop-t.t (named file) h.loop-t.invariant.0 (names_same c.name.ensures (λ j. annotation_hits r.tag r.typ j ∙ ap (λ (r : TermRecord). hits j (annotation r)) e)), omega arith)
+    let e : r ≡ term_record file c.loop-t.t = c.term_at-r.ensures ∙ ap (λ (k : ℕ). as_term (record_at file (k + c.loop-t.t + 1))) c.requires.0 in
+    (names_step 0 a.p c.loop-t.t (named file) c.loop-t.invariant.0 (names_same c.name.ensures (λ j. annotation_hits r.tag r.typ j ∙ ap (λ (r : TermRecord). hits j (annotation r)) e)), omega arith)
 
 pub shape_of-work : goal.shape_of-work
 shape_of-work c = c.loop-t.invariant.0.size

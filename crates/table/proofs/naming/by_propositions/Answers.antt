@@ -22,10 +22,9 @@ pub loop-n-preserved : goal.loop-n-preserved
 loop-n-preserved c =
     let a = c.args in
     let file = a.file.now in
-    let h = c in
     let r = c.proposition_at-r.result in
-    let e : r ≡ prop_record file h.loop-n.n = c.proposition_at-r.ensures in
-    (names_step 0 a.p h.loop-n.n (named file) h.loop-n.invariant.0 (names_same c.name_children.ensures (λ j. ap (λ (r : Record). hits j (prop_links r)) e)), omega arith)
+    let e : r ≡ prop_record file c.loop-n.n = c.proposition_at-r.ensures in
+    (names_step 0 a.p c.loop-n.n (named file) c.loop-n.invariant.0 (names_same c.name_children.ensures (λ j. ap (λ (r : Record). hits j (prop_links r)) e)), omega arith)
 
 pub shape_of-work : goal.shape_of-work
 shape_of-work c = c.loop-n.invariant.0.size

@@ -12,28 +12,23 @@ loop-n-init c = (search rules, first_start _ _, search rules, λ j b. absurd (om
 
 pub height_of-h-requires : goal.height_of-h-requires
 height_of-h-requires c =
-    let h = c in
-    let s = h in
-    children_high s.args.file.now h.loop-n.work h.loop-n.n _ c.proposition_at-r.ensures (omega (arith, c.requires.p_value.0)) s.requires.well_linked h.loop-n.invariant.3 (omega (arith, h.loop-n.invariant, s.requires.p_value))
+    children_high c.args.file.now c.loop-n.work c.loop-n.n _ c.proposition_at-r.ensures (omega (arith, c.requires.p_value.0)) c.requires.well_linked c.loop-n.invariant.3 (omega (arith, c.loop-n.invariant, c.requires.p_value))
 
 pub shape_of-work-then-h-gt-HEIGHT : goal.shape_of-work-then-h-gt-HEIGHT
 shape_of-work-then-h-gt-HEIGHT c = c.loop-n.invariant.2
 
 pub returns-then-h-gt-HEIGHT : goal.returns-then-h-gt-HEIGHT
 returns-then-h-gt-HEIGHT c =
-    let h = c in
-    let a = h.args in
-    sym (h.loop-n.invariant.1 ∙ first_here (too_high a.file.now) h.loop-n.n a.p (search rules) (is_high a.file.now h.loop-n.n _ (height_found c.args.file.now c.loop-n.work c.loop-n.n _ c.proposition_at-r.ensures (omega (arith, c.requires.p_value.0)) c.requires.well_linked c.loop-n.invariant.3 _ c.height_of-h.ensures) c.if-h-gt-HEIGHT.true))
+    let a = c.args in
+    sym (c.loop-n.invariant.1 ∙ first_here (too_high a.file.now) c.loop-n.n a.p (search rules) (is_high a.file.now c.loop-n.n _ (height_found c.args.file.now c.loop-n.work c.loop-n.n _ c.proposition_at-r.ensures (omega (arith, c.requires.p_value.0)) c.requires.well_linked c.loop-n.invariant.3 _ c.height_of-h.ensures) c.if-h-gt-HEIGHT.true))
 
 pub loop-n-preserved : goal.loop-n-preserved
 loop-n-preserved c =
-    let h = c in
-    let s = h in
-    let a = s.args in (
+    let a = c.args in (
       search rules,
-      h.loop-n.invariant.1 ∙ first_past (too_high a.file.now) h.loop-n.n a.p (search rules) (not_high a.file.now h.loop-n.n _ (height_found c.args.file.now c.loop-n.work c.loop-n.n _ c.proposition_at-r.ensures (omega (arith, c.requires.p_value.0)) c.requires.well_linked c.loop-n.invariant.3 _ c.height_of-h.ensures) c.if-h-gt-HEIGHT.false),
-      length-set h.loop-n.work h.loop-n.n _ ∙ h.loop-n.invariant.2,
-      heights_next a.file.now h.loop-n.work h.loop-n.n _ c.proposition_at-r.ensures (omega (arith, c.requires.p_value.0)) s.requires.well_linked h.loop-n.invariant.3 _ c.height_of-h.ensures c.if-h-gt-HEIGHT.false (search rules),
+      c.loop-n.invariant.1 ∙ first_past (too_high a.file.now) c.loop-n.n a.p (search rules) (not_high a.file.now c.loop-n.n _ (height_found c.args.file.now c.loop-n.work c.loop-n.n _ c.proposition_at-r.ensures (omega (arith, c.requires.p_value.0)) c.requires.well_linked c.loop-n.invariant.3 _ c.height_of-h.ensures) c.if-h-gt-HEIGHT.false),
+      length-set c.loop-n.work c.loop-n.n _ ∙ c.loop-n.invariant.2,
+      heights_next a.file.now c.loop-n.work c.loop-n.n _ c.proposition_at-r.ensures (omega (arith, c.requires.p_value.0)) c.requires.well_linked c.loop-n.invariant.3 _ c.height_of-h.ensures c.if-h-gt-HEIGHT.false (search rules),
     )
 
 pub shape_of-work : goal.shape_of-work

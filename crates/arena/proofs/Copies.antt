@@ -1,99 +1,31 @@
 -- Copies of a proposition: parameters, atoms, and records put after those that are there. Assumes nothing.
 use mathlib.Core.Path.{◌≡◌, refl, ap, sym, subst, subst⁻¹, ◌∙◌}
 use mathlib.Core.Bool.{Bool, true}
-use mathlib.Core.List.{List, [], ◌∷◌}
-use mathlib.Core.Option.{Option}
+use mathlib.Core.List.{List}
 use Prim.Native.Nat.{ℕ, suc, ◌+◌, ◌*◌, ◌<◌, ◌≤◌}
 use native.Mathlib.Omega.{arith}
 use lib.ListN.{length}
 use lib.Dec.{ltb}
-use borrow.Author.Tests.{eq-eqb, ne_eqb, lt-ltb, le-ltb}
+use borrow.Author.Tests.{lt-ltb, le-ltb}
 use Rattle.numbers.specs.declared.record.Record.{Record}
-use Rattle.numbers.specs.declared.Name.{Name}
-use Rattle.numbers.specs.declared.Serial.{Serial}
 use Rattle.numbers.specs.Limits.{largest}
 use Rattle.numbers.specs.Records.{record_at, Same}
-use Rattle.rules.specs.Prop.{Param, Link, Quant, Origin, made, Prop, const, link, quant, atom, copy, walk, put_at, bind_at, size}
-use Rattle.rules.specs.Context.{Entry, find, settle_as, settle}
+use Rattle.rules.specs.Prop.{Param, Link, Quant, Origin, made, Prop, const, link, quant, atom, copy, walk, size}
 use Rattle.rules.specs.State.{limit}
-use Rattle.context.specs.declared.identifier_context.Entry.{Entry as Held}
-use Rattle.context.specs.declared.identifier_context.Found.{Found}
-use Rattle.context.specs.declared.identifier_context.Found.TheVariants as here
-use Rattle.context.specs.Context.{Latest}
-use Rattle.context.proofs.Laws.{held_finds, nothing_finds}
 use Rattle.layout.specs.File.{PropKind, constant, linked, quantified, atomic, prop_kind}
 use Rattle.layout.specs.Form.{prop_shape, in_prop_shape, prop_form}
 use Rattle.table.specs.Links.{all_links, prop_children, prop_links}
-use Rattle.arena.specs.declared.copy.Change.{Change}
-use Rattle.arena.specs.declared.copy.Change.TheVariants as to
 use Rattle.arena.specs.declared.copy.Copied.{Copied}
 use Rattle.prop.specs.declared.atom.Parameter.{Parameter}
-use Rattle.prop.specs.declared.atom.Parameter.TheVariants.{Free, Identifier, Bound, Unused}
+use Rattle.prop.specs.declared.atom.Parameter.TheVariants.{Unused}
 use Rattle.prop.specs.Room.{origin, node, room_at, form_as, room_form, Arena}
-use Rattle.prop.specs.Atom.{coded, parameter_at, becomes, with_parameters}
-use Rattle.arena.specs.Copy.{Makes, most_records, names, changed, ChangeIn, AtomIs, MoreIs, CopiedIs}
+use Rattle.prop.specs.Atom.{parameter_at, becomes, with_parameters}
+use Rattle.arena.specs.Copy.{Makes, most_records, AtomIs, MoreIs, CopiedIs}
 use Rattle.prop.proofs.Rooms.{kind_known, room_same, arena_put, room_put}
 use Rattle.prop.proofs.Views.{kind_constant, kind_linked, kind_quantified, kind_atomic, stands, at_linked, at_quantified}
 use Rattle.prop.proofs.Counts.{size_some}
 use Rattle.prop.proofs.Atoms.{join, atom_of, form_of}
 use Rattle.prop.proofs.Places.{changed_atom, one_changed, changed_form, changed_params}
-
--- ONE PARAMETER, by what is in its place
-module _ (s : Serial) (d : ℕ) (p : Parameter) where
-  module _ (k : ℕ) (e : p ≡ Bound k) where
-    pub put_hit : k ≡ d → Identifier s ≡ becomes (put_at s.0 d) p
-    unfolding put_at
-    put_hit h = rw (e, h, eq-eqb d d refl)
-
-    pub put_miss : (k ≡ d → ⊥) → Bound k ≡ becomes (put_at s.0 d) p
-    unfolding put_at
-    put_miss h = rw (e, ne_eqb k d h)
-
-  module _ (i : Serial) (e : p ≡ Identifier i) where
-    pub bind_hit : i.0 ≡ s.0 → Bound d ≡ becomes (bind_at s.0 d) p
-    unfolding bind_at
-    bind_hit h = rw (e, h, eq-eqb s.0 s.0 refl)
-
-    pub bind_miss : (i.0 ≡ s.0 → ⊥) → Identifier i ≡ becomes (bind_at s.0 d) p
-    unfolding bind_at
-    bind_miss h = rw (e, ne_eqb i.0 s.0 h)
-
-module _ (w : List ℕ) (n : ℕ) (p : Parameter) where
-  module _ (x : Name) (e : p ≡ Free x) (r : Found) (l : Latest w n x.0 r) where
-    settle_name : (o : Option Entry) → find x.0 (names w n) ≡ o → coded (settle_as x.0 o) ≡ becomes (settle (names w n)) p
-    unfolding settle
-    settle_name o f = rw (e, f)
-
-    pub settle_held : (y : Held) → r ≡ here.Held y → Identifier y.serial ≡ becomes (settle (names w n)) p
-    unfolding settle_as
-    settle_held y q = settle_name _ (held_finds _ l q)
-
-    pub settle_nothing : r ≡ here.Nothing → Free x ≡ becomes (settle (names w n)) p
-    unfolding settle_as
-    settle_nothing q = settle_name _ (nothing_finds _ l q)
-
-  pub settle_identifier : (i : Serial) → p ≡ Identifier i → Free (record { 0 = i.0 }) ≡ becomes (settle (names w n)) p
-  unfolding settle
-  settle_identifier i e = rw e
-
-module _ (w : List ℕ) (d : ℕ) (p q : Parameter) (change : Change) where
-  as_told : (t : Change) → change ≡ t → q ≡ becomes (changed w t d) p → q ≡ becomes (changed w change d) p
-  as_told t e h = subst⁻¹ (λ (t : Change). q ≡ becomes (changed w t d) p) e h
-
-  pub changed_put : (s : Serial) → change ≡ to.Put s → q ≡ becomes (put_at s.0 d) p → q ≡ becomes (changed w change d) p
-  unfolding changed
-  changed_put s e h = as_told (to.Put s) e h
-
-  pub changed_bind : (s : Serial) → change ≡ to.Bind s → q ≡ becomes (bind_at s.0 d) p → q ≡ becomes (changed w change d) p
-  unfolding changed
-  changed_bind s e h = as_told (to.Bind s) e h
-
-  pub changed_settled : (n : ℕ) → change ≡ to.Resolve n → q ≡ becomes (settle (names w n)) p → q ≡ becomes (changed w change d) p
-  unfolding changed
-  changed_settled n e h = as_told (to.Resolve n) e h
-
-pub settle_room : (w : List ℕ) (change : Change) (n : ℕ) → change ≡ to.Resolve n → ChangeIn w change → 8 * n ≤ length w
-settle_room w change n e h = subst (ChangeIn w) e h
 
 -- AN ATOM
 module _ (h : Param → Param) (r : Record) (K : prop_kind r.kind ≡ atomic) (form : room_form r ≡ true) where
@@ -138,6 +70,25 @@ module _ {old mid new : List ℕ} {c e : ℕ} {q : Record} {o : Copied} (k : ℕ
 -- the links of a record of a known kind
 pub links_as : (ok : ℕ → Bool) (q : Record) (K : PropKind) → prop_kind q.kind ≡ K → all_links ok (prop_children (prop_shape K).children q) ≡ true → all_links ok (prop_links q) ≡ true
 links_as ok q K e h = subst⁻¹ (λ (K : PropKind). all_links ok (prop_children (prop_shape K).children q) ≡ true) e h
+
+-- what is written over a field that its kind uses does not matter to a record's form
+link_form : (r : Record) (l : Link) (a b : ℕ) → prop_kind r.kind ≡ linked l → room_form r ≡ true
+    → room_form (record { kind = r.kind; count = r.count; a = a; b = b; c = r.c; parameters = r.parameters }) ≡ true
+unfolding room_form form_as prop_form prop_shape
+link_form r l a b e f =
+    let q : Record = record { kind = r.kind; count = r.count; a = a; b = b; c = r.c; parameters = r.parameters } in
+    let f' : form_as (linked l) r ≡ true = subst (λ (K : PropKind). form_as K r ≡ true) e f in
+    let g : in_prop_shape (prop_shape (linked l)) r ≡ true = subst (λ (K : PropKind). in_prop_shape (prop_shape K) r ≡ true) e f' in
+    subst⁻¹ (λ (K : PropKind). form_as K q ≡ true) e (subst⁻¹ (λ (K : PropKind). in_prop_shape (prop_shape K) q ≡ true) e g)
+
+quant_form : (r : Record) (x : Quant) (c : ℕ) → prop_kind r.kind ≡ quantified x → room_form r ≡ true
+    → room_form (record { kind = r.kind; count = r.count; a = r.a; b = r.b; c = c; parameters = r.parameters }) ≡ true
+unfolding room_form form_as prop_form prop_shape
+quant_form r x c e f =
+    let q : Record = record { kind = r.kind; count = r.count; a = r.a; b = r.b; c = c; parameters = r.parameters } in
+    let f' : form_as (quantified x) r ≡ true = subst (λ (K : PropKind). form_as K r ≡ true) e f in
+    let g : in_prop_shape (prop_shape (quantified x)) r ≡ true = subst (λ (K : PropKind). in_prop_shape (prop_shape K) r ≡ true) e f' in
+    subst⁻¹ (λ (K : PropKind). form_as K q ≡ true) e (subst⁻¹ (λ (K : PropKind). in_prop_shape (prop_shape K) q ≡ true) e g)
 
 -- `copy`, in the order of its code
 module _ (old : List ℕ) (c n : ℕ) (ok : Arena old c) (k : n < c) (fit : (tables : ℕ) → c + size (room_at tables old n) ≤ most_records) where
@@ -234,11 +185,10 @@ module _ (old : List ℕ) (c n : ℕ) (ok : Arena old c) (k : n < c) (fit : (tab
           second_long = omega (arith, i₁.long, i₂.long)
 
           abbrev parent : Record
-          parent = record { kind = r.kind; count = 0; a = o₁.at.0; b = o₂.at.0; c = 0; parameters = 0 ∷ 0 ∷ 0 ∷ 0 ∷ [] }
+          parent = record { kind = r.kind; count = r.count; a = o₁.at.0; b = o₂.at.0; c = r.c; parameters = r.parameters }
 
           parent_form : room_form parent ≡ true
-          unfolding room_form form_as prop_form prop_shape
-          parent_form = subst⁻¹ (λ (K : PropKind). form_as K parent ≡ true) joined.1 (subst⁻¹ (λ (K : PropKind). in_prop_shape (prop_shape K) parent ≡ true) joined.1 refl)
+          parent_form = link_form r joined.0 o₁.at.0 o₂.at.0 joined.1 form_here
 
           parent_links : all_links (λ m. ltb m o₂.count) (prop_links parent) ≡ true
           unfolding all_links prop_children prop_shape
@@ -297,11 +247,10 @@ module _ (old : List ℕ) (c n : ℕ) (ok : Arena old c) (k : n < c) (fit : (tab
         body_long = omega (arith, i₁.long)
 
         abbrev binder : Record
-        binder = record { kind = r.kind; count = 0; a = r.a; b = r.b; c = o₁.at.0; parameters = 0 ∷ 0 ∷ 0 ∷ 0 ∷ [] }
+        binder = record { kind = r.kind; count = r.count; a = r.a; b = r.b; c = o₁.at.0; parameters = r.parameters }
 
         binder_form : room_form binder ≡ true
-        unfolding room_form form_as prop_form prop_shape
-        binder_form = subst⁻¹ (λ (K : PropKind). form_as K binder ≡ true) bound_by.1 (subst⁻¹ (λ (K : PropKind). in_prop_shape (prop_shape K) binder ≡ true) bound_by.1 refl)
+        binder_form = quant_form r bound_by.0 o₁.at.0 bound_by.1 form_here
 
         binder_links : all_links (λ m. ltb m o₁.count) (prop_links binder) ≡ true
         unfolding all_links prop_children prop_shape

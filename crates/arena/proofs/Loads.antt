@@ -1,23 +1,20 @@
 -- A table's propositions put into their room: parameters, atoms, records, and what the room then stands for. Assumes nothing.
+use Rattle.std.specs.Prelude.{Option, Some, None}
 use mathlib.Core.Path.{◌≡◌, refl, ap, sym, subst, subst⁻¹, ◌∙◌}
 use mathlib.Core.Bool.{true, false, ◌&&◌}
 use mathlib.Core.List.{List, [], ◌∷◌, map}
-use mathlib.Core.Logic.{◌⊎◌, inl, inr}
-use Prim.Native.Nat.{ℕ, zero, suc, ◌+◌, ◌*◌, ◌<◌, ◌≤◌}
-use native.Mathlib.Nat.{eq-or-lt_of_le}
+use Prim.Native.Nat.{ℕ, zero, suc, ◌*◌, ◌<◌, ◌≤◌}
 use native.Mathlib.Omega.{arith}
 use lib.ListN.{length, get_or, take}
 use lib.Dec.{eqb, ltb, leb}
 use borrow.Author.Tests.{eqb-true, lt-ltb, leb-true}
 use Rattle.numbers.specs.declared.Name.{Name}
 use Rattle.numbers.specs.declared.record.Record.{Record}
-use Rattle.numbers.specs.Records.{record_at, Put}
+use Rattle.numbers.specs.Records.{record_at}
 use Rattle.rules.specs.Prop.{Param, free, Origin, table, Prop, const, link, quant, atom}
 use Rattle.layout.specs.File.{props, prop_record, PropKind, constant, linked, quantified, atomic, strange, prop_kind, prop_kinds}
 use Rattle.layout.specs.Form.{prop_shape, in_prop_shape, prop_form}
 use Rattle.layout.proofs.Strange.{strange_prop}
-use Rattle.table.specs.declared.above.Settled.{Settled}
-use Rattle.table.specs.declared.above.Settled.TheVariants as settled-as
 use Rattle.table.specs.Links.{all_links, prop_children, prop_links, hits}
 use Rattle.table.specs.Reading.{binders, settled, prop_of, prop_at}
 use Rattle.table.specs.Nearest.{param_of}
@@ -36,17 +33,17 @@ use Rattle.prop.proofs.Atoms.{split, form_of}
 use Rattle.prop.proofs.Places.{changed_form, changed_params}
 
 -- ONE PARAMETER, as it was settled
-module _ (l : List ℕ) (n : ℕ) (p : Parameter) (x : Name) (e : p ≡ Free x) (o : Settled) (f : param_of x.0 o ≡ settled x.0 0 (binders l n)) where
-  as_settled : (q : Settled) → o ≡ q → coded (param_of x.0 q) ≡ becomes (named l n) p
+module _ (l : List ℕ) (n : ℕ) (p : Parameter) (x : Name) (e : p ≡ Free x) (o : Option ℕ) (f : param_of x.0 o ≡ settled x.0 0 (binders l n)) where
+  as_settled : (q : Option ℕ) → o ≡ q → coded (param_of x.0 q) ≡ becomes (named l n) p
   unfolding named
   as_settled q g =
-      ap (λ (q : Settled). coded (param_of x.0 q)) (sym g) ∙ ap (λ (y : Param). coded y) f ∙ ap (λ (p : Parameter). becomes (named l n) p) (sym e)
+      ap (λ (q : Option ℕ). coded (param_of x.0 q)) (sym g) ∙ ap (λ (y : Param). coded y) f ∙ ap (λ (p : Parameter). becomes (named l n) p) (sym e)
 
-  pub load_free : o ≡ settled-as.Free → Free x ≡ becomes (named l n) p
-  load_free g = as_settled settled-as.Free g
+  pub load_free : o ≡ None → Free x ≡ becomes (named l n) p
+  load_free g = as_settled None g
 
-  pub load_bound : (k : ℕ) → o ≡ settled-as.Bound k → Bound k ≡ becomes (named l n) p
-  load_bound k g = as_settled (settled-as.Bound k) g
+  pub load_bound : (k : ℕ) → o ≡ Some k → Bound k ≡ becomes (named l n) p
+  load_bound k g = as_settled (Some k) g
 
 -- A RECORD of either sort
 loaded_same : (l : List ℕ) (n k : ℕ) (r : Record) → (k ≡ 7 → ⊥) → loaded_as l n (prop_kind k) r ≡ r
@@ -161,30 +158,6 @@ module _ (l : List ℕ) (n : ℕ) (r : Record) where
   reads_as tables sub sub' o f four atomic e s = λ i. atom (o i) r.a (params_are (counts_in r atomic e f).1 (names_alone r e f).0 four i)
   reads_as tables sub sub' o f four strange e s = ap (λ (p : Origin). const p false) o
 
--- THE LOOP, in the order of its code: n of p records are there
-pub record Turn (l : List ℕ) (p n : ℕ) (old new : List ℕ) : Type 0 where
-  pub so : Loading l n old new
-  pub within : n ≤ p
-
-pub turn_start : (l : List ℕ) (p : ℕ) (w : List ℕ) → Turn l p 0 w w
-turn_start l p w = record { so = record { records = λ n h. absurd (omega arith); others = λ m h. refl; size = refl }; within = omega arith }
-
-pub turn_step : (l : List ℕ) (p n : ℕ) (old w new : List ℕ) (r : Record) → Turn l p n old w → n < p → r ≡ loaded_record l n → Put w n r new → Turn l p (n + 1) old new
-turn_step l p n old w new r t k e put =
-    record {
-      so =
-          record {
-            records = λ m h. at m (eq-or-lt_of_le (omega arith));
-            others = λ m h. put.others m (omega arith) ∙ t.so.others m (omega arith);
-            size = put.size ∙ t.so.size;
-          };
-      within = omega arith;
-    }
-  where
-    at : (m : ℕ) → (m ≡ n) ⊎ (m < n) → record_at new m ≡ loaded_record l m
-    at m (inl q) = subst⁻¹ (λ (m : ℕ). record_at new m ≡ loaded_record l m) q (put.here ∙ e)
-    at m (inr h) = put.others m (omega arith) ∙ t.so.records m h
-
 -- A ROOM with all the records of a table that passed
 table_here : (tables n : ℕ) → n < tables → origin tables n ≡ table n
 unfolding origin
@@ -221,5 +194,5 @@ module _ {l old new : List ℕ} (f : Formed l) (h : WellLinked l) (long : 16 * p
   loaded_all : Loaded l old new
   loaded_all = record { all = so; arena = loaded_arena; means = loaded_props }
 
-pub turn_end : (l old new : List ℕ) (n p : ℕ) → Formed l → WellLinked l → 16 * props l ≤ length old → p ≡ props l → p ≤ n → Turn l p n old new → Loaded l old new
-turn_end l old new n p f h long e a t = loaded_all f h long (subst (λ (c : ℕ). Loading l c old new) (omega (arith, t.within)) t.so)
+pub load_end : (l old new : List ℕ) (n p : ℕ) → Formed l → WellLinked l → 16 * props l ≤ length old → p ≡ props l → n ≡ p → Loading l n old new → Loaded l old new
+load_end l old new n p f h long e a so = loaded_all f h long (subst (λ (c : ℕ). Loading l c old new) (a ∙ e) so)

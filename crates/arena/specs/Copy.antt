@@ -1,14 +1,12 @@
 -- Copies of a proposition, its parameters changed. Assumes nothing.
-use Rattle.std.specs.Prelude.{◌≡◌, true, List, map, ℕ, ◌+◌, ◌*◌, ◌<◌, ◌≤◌, length}
+use Rattle.std.specs.Prelude.{◌≡◌, true, List, map, ℕ, ◌+◌, ◌<◌, ◌≤◌, length}
 use Rattle.numbers.specs.declared.record.Record.{Record}
 use Rattle.numbers.specs.Limits.{most_propositions}
 use Rattle.numbers.specs.Records.{Put, Same}
-use Rattle.rules.specs.Prop.{Param, Prop, datatype, put_at, bind_at, copy, walk, size}
-use Rattle.rules.specs.Context.{Ctx, settle}
+use Rattle.rules.specs.Prop.{Param, Prop, datatype, copy, walk, size}
+use Rattle.rules.specs.Context.{Ctx}
 use Rattle.rules.specs.State.{limit}
 use Rattle.context.specs.Context.{ctx_at}
-use Rattle.arena.specs.declared.copy.Change.{Change}
-use Rattle.arena.specs.declared.copy.Change.TheVariants as to
 use Rattle.arena.specs.declared.copy.Copied.{Copied}
 use Rattle.prop.specs.Room.{params, room_at, room_form, Arena}
 
@@ -19,18 +17,6 @@ most_records = most_propositions + limit
 -- the first n entries of the work room as resolving asks for them: by name and serial, of whatever type
 abbrev pub names : List ℕ → ℕ → Ctx
 names w n = ctx_at (λ t. datatype 0) w n
-
--- what becomes of a parameter below d quantifiers
-unfoldable pub changed : List ℕ → Change → ℕ → Param → Param
-changed w (to.Put s) = put_at s.0
-changed w (to.Bind s) = bind_at s.0
-changed w (to.Resolve n) = λ d. settle (names w n)
-
--- the entries that a change reads are in the work room
-abbrev pub ChangeIn : List ℕ → Change → Type 0
-ChangeIn w (to.Put s) = Unit {0}
-ChangeIn w (to.Bind s) = Unit {0}
-ChangeIn w (to.Resolve n) = 8 * n ≤ length w
 
 -- q is the atom r with its parameters changed
 pub record AtomIs (h : Param → Param) (r q : Record) : Type 0 where

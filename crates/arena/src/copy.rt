@@ -1,26 +1,92 @@
 // Copies of a proposition with its parameters changed, made of new records.
-ghost use Rattle.std.specs.Prelude.{◌≡◌, true, ℕ, ◌+◌, ◌*◌, ◌<◌, ◌≤◌, length};
+ghost use Rattle.std.specs.Prelude.{◌≡◌, true, ℕ, ◌+◌, ◌*◌, ◌<◌, ◌≤◌, length, ⊤};
 ghost use Rattle.numbers.specs.Limits.{largest};
-ghost use Rattle.rules.specs.Prop.{put_at, bind_at, size};
+ghost use Rattle.rules.specs.Prop.{Param, put_at, bind_at, size};
 ghost use Rattle.rules.specs.Context.{settle};
 ghost use Rattle.layout.specs.File.{atomic, prop_kind};
 ghost use Rattle.prop.specs.Room.{room_form, room_at, Arena};
 ghost use Rattle.prop.specs.Atom.{becomes};
-ghost use Rattle.arena.specs.Copy.{most_records, names, changed, ChangeIn, AtomIs, MoreIs, CopiedIs};
+ghost use Rattle.arena.specs.Copy.{most_records, names, AtomIs, MoreIs, CopiedIs};
 
-use context::identifier_context::{Found, get_by_name};
+use context::identifier_context::get_by_name;
 use numbers::record::{Record, put};
 use numbers::{Name, Proposition, Serial};
 use prop::atom::{Parameter, parameter_at, with_parameters};
-use prop::node::{AND, ATOM, EXISTS, FALSE, FOR_ALL, IMPL, TRUE, node_at};
+use prop::node::{AND, ATOM, EXISTS, FALSE, FOR_ALL, IMPL, TRUE};
+use prop::propositions::Propositions;
 
-// Put an identifier for a quantifier's parameters, bind one by a quantifier around it, or put identifiers for free names: those of their
-// latest entries, of that many in the work room. (Only this last one reads the work room.)
+// What becomes of a parameter that stands below d quantifiers.
+pub trait Change: Copy {
+    ghost changed: { Self → ℕ → Param → Param };
+
+    // What the change reads is there.
+    ghost ready: { Self → Type 0 };
+
+    fn apply(self, p: Parameter, d: u16) -> Parameter
+        requires { ready self }
+        ensures { result ≡ becomes (changed self d) p };
+}
+
+// An identifier for the parameters of the quantifier around what is copied.
 #[derive(Clone, Copy)]
-pub enum Change {
-    Put(Serial),
-    Bind(Serial),
-    Resolve(usize),
+pub struct Put(pub Serial);
+
+impl Change for Put {
+    ghost changed = { λ c. put_at c.0.0 };
+
+    ghost ready = { λ c. ⊤ };
+
+    #[tactic(auto, unfolding(rules::specs::Prop::put_at))]
+    fn apply(self, p: Parameter, d: u16) -> Parameter {
+        match p {
+            Parameter::Bound(k) if k == d => Parameter::Identifier(self.0),
+            _ => p,
+        }
+    }
+}
+
+// The reverse: an identifier is bound by that quantifier.
+#[derive(Clone, Copy)]
+pub struct Bind(pub Serial);
+
+impl Change for Bind {
+    ghost changed = { λ c. bind_at c.0.0 };
+
+    ghost ready = { λ c. ⊤ };
+
+    #[tactic(auto, unfolding(rules::specs::Prop::bind_at))]
+    fn apply(self, p: Parameter, d: u16) -> Parameter {
+        match p {
+            Parameter::Identifier(i) if i == self.0 => Parameter::Bound(d),
+            _ => p,
+        }
+    }
+}
+
+// Free names become the identifiers of their latest entries, of the first `len` in the work room. (Where all names are known there is no
+// serial, and each name has an entry.)
+#[derive(Clone, Copy)]
+pub struct Resolve<'a> {
+    pub work: &'a [u8],
+    pub len: usize,
+}
+
+impl<'a> Change for Resolve<'a> {
+    ghost changed = { λ c d. settle (names c.work.now c.len) };
+
+    ghost ready = { λ c. 8 * c.len ≤ length c.work.now };
+
+    #[tactic(auto, unfolding(rules::specs::Context::settle, rules::specs::Context::settle_as))]
+    fn apply(self, p: Parameter, _d: u16) -> Parameter {
+        match p {
+            Parameter::Free(x) => match get_by_name(self.work, self.len, x) {
+                Some(e) => Parameter::Identifier(e.serial),
+                None => p,
+            },
+            Parameter::Identifier(i) => Parameter::Free(Name(i.0)),
+            Parameter::Bound(_) | Parameter::Unused => p,
+        }
+    }
 }
 
 // The copy's number, and how many records there are with it.
@@ -30,76 +96,21 @@ pub struct Copied {
     pub count: u16,
 }
 
-// An identifier for the parameters of a quantifier that stands d quantifiers above.
-fn put_at(p: Parameter, d: u16, s: Serial) -> Parameter
-    ensures { result ≡ becomes (put_at s.0 d) p }
-{
-    match p {
-        Parameter::Free(_) => p,
-        Parameter::Identifier(_) => p,
-        Parameter::Bound(k) => { if k == d { Parameter::Identifier(s) } else { p } }
-        Parameter::Unused => p,
-    }
-}
-
-// The reverse: an identifier is bound by that quantifier.
-fn bind_at(p: Parameter, d: u16, s: Serial) -> Parameter
-    ensures { result ≡ becomes (bind_at s.0 d) p }
-{
-    match p {
-        Parameter::Free(_) => p,
-        Parameter::Identifier(i) => { if i.0 == s.0 { Parameter::Bound(d) } else { p } }
-        Parameter::Bound(_) => p,
-        Parameter::Unused => p,
-    }
-}
-
-// A free name becomes its identifier. (Where all names are known there is no serial, and each name has an entry.)
-fn settle(p: Parameter, work: &[u8], len: usize) -> Parameter
-    requires { 8 * len ≤ length work.now }
-    ensures { result ≡ becomes (settle (names work.now len)) p }
-{
-    match p {
-        Parameter::Free(x) => match get_by_name(work, len, x) {
-            Found::Held(e) => {
-                let i = e.serial;
-                Parameter::Identifier(i)
-            }
-            Found::Nothing => p,
-        },
-        Parameter::Identifier(i) => Parameter::Free(Name(i.0)),
-        Parameter::Bound(_) => p,
-        Parameter::Unused => p,
-    }
-}
-
-// One parameter, below d quantifiers.
-fn change_parameter(p: Parameter, d: u16, change: Change, work: &[u8]) -> Parameter
-    requires { ChangeIn work.now change }
-    ensures { result ≡ becomes (changed work.now change d) p }
-{
-    match change {
-        Change::Put(s) => put_at(p, d, s),
-        Change::Bind(s) => bind_at(p, d, s),
-        Change::Resolve(len) => settle(p, work, len),
-    }
-}
-
 // An atom's record with its parameters changed. (Most have one or none.)
-fn change_atom(r: Record, d: u16, change: Change, work: &[u8]) -> Record
+fn change_atom<C: Change>(r: Record, d: u16, change: C) -> Record
     requires kind_value { prop_kind r.kind ≡ atomic }
     requires r_value { room_form r ≡ true }
-    requires change_in { ChangeIn work.now change }
-    ensures { AtomIs (changed work.now change d) r result }
+    requires change_in { C.ready change }
+    ensures { AtomIs (C.changed change d) r result }
 {
-    let p = change_parameter(parameter_at(r, 0), d, change, work);
+    let p = change.apply(parameter_at(r, 0), d);
     if r.count <= 1 {
         let none = Parameter::Unused;
         return with_parameters(r, p, none, none, none);
     }
-    let q = change_parameter(parameter_at(r, 1), d, change, work);
-    let s = change_parameter(parameter_at(r, 2), d, change, work);
-    let t = change_parameter(parameter_at(r, 3), d, change, work);
+    let q = change.apply(parameter_at(r, 1), d);
+    let s = change.apply(parameter_at(r, 2), d);
+    let t = change.apply(parameter_at(r, 3), d);
     with_parameters(r, p, q, s, t)
 }
 
@@ -109,8 +120,7 @@ pub fn one_more(props: &mut [u8], count: u16, r: Record) -> Copied
     requires most_records_in_bounds { 16 * most_records ≤ length props.old }
     ensures { MoreIs props.old count r props.new result }
 {
-    let i = count as usize;
-    put(props, i, r);
+    put(props, usize::from(count), r);
     Copied {
         at: Proposition(count),
         count: count + 1,
@@ -119,60 +129,33 @@ pub fn one_more(props: &mut [u8], count: u16, r: Record) -> Copied
 
 // A copy of proposition n, which stands below d quantifiers: children before parents, after the first `count` records. The caller has counted
 // the nodes, so there is room for it.
-pub fn copy(
-    props: &mut [u8],
-    count: u16,
-    n: Proposition,
-    d: u16,
-    change: Change,
-    work: &[u8],
-) -> Copied
+pub fn copy<C: Change>(props: &mut [u8], count: u16, n: Proposition, d: u16, change: C) -> Copied
     requires arena { Arena props.old count }
     requires n_lt_count { n.0 < count }
     requires n_bound { d + n.0 ≤ largest }
     requires by_index { (tables : ℕ) → count + size (room_at tables props.old n.0) ≤ most_records }
     requires most_records_in_bounds { 16 * most_records ≤ length props.old }
-    requires change_in { ChangeIn work.now change }
-    ensures { CopiedIs props.old count n.0 (changed work.now change) d props.new result }
+    requires change_in { C.ready change }
+    ensures { CopiedIs props.old count n.0 (C.changed change) d props.new result }
 {
-    let r = node_at(props, count, n);
-    let kind = r.kind;
-    match kind {
+    let r = Propositions { room: props, count }.at(n);
+    match r.kind {
         TRUE..=FALSE => one_more(props, count, r),
         AND..=IMPL => {
-            let first = copy(props, count, Proposition(r.a), d, change, work);
-            let second = copy(props, first.count, Proposition(r.b), d, change, work);
-            one_more(
-                props,
-                second.count,
-                Record {
-                    kind,
-                    count: 0,
-                    a: first.at.0,
-                    b: second.at.0,
-                    c: 0,
-                    parameters: [0, 0, 0, 0],
-                },
-            )
+            let first = copy(props, count, Proposition(r.a), d, change);
+            let second = copy(props, first.count, Proposition(r.b), d, change);
+            let link = Record {
+                a: first.at.0,
+                b: second.at.0,
+                ..r
+            };
+            one_more(props, second.count, link)
         }
         FOR_ALL..=EXISTS => {
-            let body = copy(props, count, Proposition(r.c), d + 1, change, work);
-            one_more(
-                props,
-                body.count,
-                Record {
-                    kind,
-                    count: 0,
-                    a: r.a,
-                    b: r.b,
-                    c: body.at.0,
-                    parameters: [0, 0, 0, 0],
-                },
-            )
+            let body = copy(props, count, Proposition(r.c), d + 1, change);
+            let quantifier = Record { c: body.at.0, ..r };
+            one_more(props, body.count, quantifier)
         }
-        ATOM..=255 => {
-            let q = change_atom(r, d, change, work);
-            one_more(props, count, q)
-        }
+        ATOM..=255 => one_more(props, count, change_atom(r, d, change)),
     }
 }

@@ -2,31 +2,26 @@
 ghost use Rattle.std.specs.Prelude.{◌≡◌, ◌*◌, ◌<◌, ◌≤◌, length};
 ghost use Rattle.layout.specs.File.{props as prop_count};
 ghost use Rattle.table.specs.Tests.{test_room};
-ghost use Rattle.table.specs.Nearest.{Above};
 ghost use Rattle.table.specs.Passing.{Counted, Formed, WellLinked};
 ghost use Rattle.prop.specs.Atom.{becomes};
 ghost use Rattle.arena.specs.Load.{named, loaded_atom, loaded_record, Loaded};
 
 use layout::header::proposition_count;
-use layout::record::proposition_at;
 use numbers::Proposition;
 use numbers::record::{Record, put};
 use prop::atom::{Parameter, parameter_at, with_parameters};
 use prop::node::ATOM;
-use table::above::{Settled, find_above, settle};
+use table::above::Scopes;
 
 // A parameter of record n: a name is free, or bound. (A table has no others.)
-fn load_parameter(file: &[u8], work: &[u8], n: Proposition, p: Parameter) -> Parameter
-    requires counted { Counted file.now }
-    requires well_linked { WellLinked file.now }
-    requires above { Above file.now work.now }
-    requires n_bound { (n.0 < prop_count file.now) × (test_room ≤ length work.now) }
-    ensures { result ≡ becomes (named file.now n.0) p }
+fn load_parameter(scopes: &Scopes, n: Proposition, p: Parameter) -> Parameter
+    requires { n.0 < prop_count scopes.now }
+    ensures { result ≡ becomes (named scopes.now n.0) p }
 {
     match p {
-        Parameter::Free(x) => match settle(file, work, n, x) {
-            Settled::Free => p,
-            Settled::Bound(k) => Parameter::Bound(k),
+        Parameter::Free(x) => match scopes.settle(n, x) {
+            Some(k) => Parameter::Bound(k),
+            None => p,
         },
         Parameter::Identifier(_) => p,
         Parameter::Bound(_) => p,
@@ -35,32 +30,26 @@ fn load_parameter(file: &[u8], work: &[u8], n: Proposition, p: Parameter) -> Par
 }
 
 // The atom r, which is record n.
-fn load_atom(file: &[u8], work: &[u8], n: Proposition, r: Record) -> Record
-    requires counted { Counted file.now }
-    requires well_linked { WellLinked file.now }
-    requires above { Above file.now work.now }
-    requires n_bound { (n.0 < prop_count file.now) × (test_room ≤ length work.now) }
-    ensures { result ≡ loaded_atom file.now n.0 r }
+fn load_atom(scopes: &Scopes, n: Proposition, r: Record) -> Record
+    requires { n.0 < prop_count scopes.now }
+    ensures { result ≡ loaded_atom scopes.now n.0 r }
 {
-    let p = load_parameter(file, work, n, parameter_at(r, 0));
-    let q = load_parameter(file, work, n, parameter_at(r, 1));
-    let s = load_parameter(file, work, n, parameter_at(r, 2));
-    let t = load_parameter(file, work, n, parameter_at(r, 3));
+    let p = load_parameter(scopes, n, parameter_at(r, 0));
+    let q = load_parameter(scopes, n, parameter_at(r, 1));
+    let s = load_parameter(scopes, n, parameter_at(r, 2));
+    let t = load_parameter(scopes, n, parameter_at(r, 3));
     with_parameters(r, p, q, s, t)
 }
 
 // Record n, as the room holds it.
-fn load_record(file: &[u8], work: &[u8], n: Proposition) -> Record
-    requires counted { Counted file.now }
-    requires well_linked { WellLinked file.now }
-    requires above { Above file.now work.now }
-    requires n_bound { (n.0 < prop_count file.now) × (test_room ≤ length work.now) }
-    ensures { result ≡ loaded_record file.now n.0 }
+fn load_record(scopes: &Scopes, n: Proposition) -> Record
+    requires { n.0 < prop_count scopes.now }
+    ensures { result ≡ loaded_record scopes.now n.0 }
 {
-    let r = proposition_at(file, n);
+    let r = scopes.proposition(n);
     let kind = r.kind;
     if kind == ATOM {
-        load_atom(file, work, n, r)
+        load_atom(scopes, n, r)
     } else {
         r
     }
@@ -74,12 +63,10 @@ pub fn load(file: &[u8], work: &mut [u8], props: &mut [u8])
     requires test_room_in_bounds { (test_room ≤ length work.old) × (16 * prop_count file.now ≤ length props.old) }
     ensures { Loaded file.now props.old props.new }
 {
-    find_above(file, work);
+    let scopes = Scopes::of(file, work);
     let p = proposition_count(file);
-    let mut n: u16 = 0;
-    while n < p {
-        let r = load_record(file, work, Proposition(n));
+    for n in 0..p {
+        let r = load_record(&scopes, Proposition(n));
         put(props, n as usize, r);
-        n += 1;
     }
 }

@@ -2,6 +2,7 @@
 // definition does with a program. The cycle has these four functions, however many rules there are.
 #![tactic(auto)]
 
+ghost use Rattle.std.specs.Prelude.{◌≡◌};
 ghost use Rattle.prop.specs.Room.{TypeIn};
 ghost use Rattle.step.specs.declared.state.Want.TheVariants.{Check, Synth};
 ghost use Rattle.layout.specs.File.{term_record};
@@ -10,36 +11,35 @@ ghost use Rattle.step.specs.Modes.{WantIn};
 ghost use Rattle.step.specs.Contract.{Ready, RanAs};
 ghost use Rattle.rule.specs.Going.{Begins, begun_as};
 
+use numbers::refusal::Refusal;
 use numbers::{Sort, Term};
 use rule::check::{begun_as, settle};
-use rule::next::Next;
+use rule::next::{Next, Rule};
 use rule::resume::resume;
-use step::state::{Ran, State, Want, leave};
+use step::state::{Answer, State, Want};
 
-// Term k up to its first premise.
+// A rule up to its first premise.
 fn begin(
     file: &[u8],
     tree: &mut [u8],
     goals: &mut [u8],
     props: &mut [u8],
     work: &mut [u8],
-    k: Term,
-    w: Want,
-    st: State,
-) -> Next
-    requires ready { Ready file.now (rooms tree.old goals.old props.old work.old) k.0 st }
-    requires want_in { WantIn (count_of file.now st) w }
+    f: Rule,
+) -> Result<Next, Refusal>
+    requires ready { Ready file.now (rooms tree.old goals.old props.old work.old) f.term.0 f.start }
+    requires want_in { WantIn (count_of file.now f.start) f.want }
+    requires begun { f.want ≡ begun_as (term_record file.now f.term.0).kind f.want }
     ensures { Begins file.now (rooms tree.old goals.old props.old work.old)
-        (rooms tree.new goals.new props.new work.new)
-        k.0 (begun_as (term_record file.now k.0).kind w) st result }
+        (rooms tree.new goals.new props.new work.new) f.term.0 f.want f.start result }
 {
-    match begun_as(file, k, w) {
-        Want::Synth => rule::synthesize::begin(file, tree, props, work, k, st),
-        Want::Check(t) => rule::check::begin(file, tree, goals, props, work, k, t, st),
+    match f.want {
+        Want::Synth => rule::synthesize::begin(file, tree, props, work, f.term, f.start),
+        Want::Check(t) => rule::check::begin(file, tree, goals, props, work, f.term, t, f.start),
     }
 }
 
-// The rule of term k, from premise to premise.
+// The rule of term k, from premise to premise. It goes on as it was begun (`f`), and ends as it was wanted (`whole`).
 #[cycle(check_perform_run_synthesize)]
 fn perform(
     file: &[u8],
@@ -50,35 +50,31 @@ fn perform(
     k: Term,
     w: Want,
     st: State,
-) -> Ran
+) -> Result<Answer, Refusal>
     requires ready { Ready file.now (rooms tree.old goals.old props.old work.old) k.0 st }
     requires want_in { WantIn (count_of file.now st) w }
     ensures { RanAs file.now (rooms tree.old goals.old props.old work.old)
         (rooms tree.new goals.new props.new work.new) k.0 w st result }
 {
-    let mut next = begin(file, tree, goals, props, work, k, w, st);
+    let whole = Rule {
+        term: k,
+        want: w,
+        start: st,
+    };
+    let want = begun_as(file, k, w);
+    let f = Rule { want, ..whole };
+    let mut next = begin(file, tree, goals, props, work, f)?;
+    // No `for`: there are as many turns as the rule has premises, and only the rule says, turn by turn, whether it asks for another.
     loop {
         match next {
-            Next::Done(t, s) => {
-                return settle(file, tree, props, k, w, st, t, s);
-            }
-            Next::Refused(e) => {
-                return Ran::Refused(e);
-            }
+            Next::Done(a) => return settle(file, tree, props, whole, a),
             Next::Instead(x, t, s) => {
                 return check(file, tree, goals, props, work, x, t, s);
             }
-            Next::Ask(f, rest, x, v, s) => {
-                match run(file, tree, goals, props, work, x, v, s) {
-                    Ran::Refused(e) => {
-                        return Ran::Refused(e);
-                    }
-                    Ran::Has(t, s1) => {
-                        let start = f.start;
-                        let back = leave(s1, start.context);
-                        next = resume(file, tree, props, work, f, rest, t, back);
-                    }
-                }
+            Next::Ask(rest, x, v, s) => {
+                let mut a = run(file, tree, goals, props, work, x, v, s)?;
+                a.state = a.state.leave(st.context);
+                next = resume(file, tree, props, work, f, rest, a)?;
             }
         }
     }
@@ -95,7 +91,7 @@ fn run(
     k: Term,
     w: Want,
     st: State,
-) -> Ran
+) -> Result<Answer, Refusal>
     requires ready { Ready file.now (rooms tree.old goals.old props.old work.old) k.0 st }
     requires want_in { WantIn (count_of file.now st) w }
     ensures { RanAs file.now (rooms tree.old goals.old props.old work.old)
@@ -118,7 +114,7 @@ pub fn check(
     k: Term,
     wanted: Sort,
     st: State,
-) -> Ran
+) -> Result<Answer, Refusal>
     requires ready { Ready file.now (rooms tree.old goals.old props.old work.old) k.0 st }
     requires type_in { TypeIn (count_of file.now st) wanted }
     ensures { RanAs file.now (rooms tree.old goals.old props.old work.old)
@@ -137,7 +133,7 @@ fn synthesize(
     work: &mut [u8],
     k: Term,
     st: State,
-) -> Ran
+) -> Result<Answer, Refusal>
     requires { Ready file.now (rooms tree.old goals.old props.old work.old) k.0 st }
     ensures { RanAs file.now (rooms tree.old goals.old props.old work.old)
         (rooms tree.new goals.new props.new work.new) k.0 Synth st result }

@@ -1,6 +1,7 @@
 -- Laws of the context: callers cite these, and not the definitions' text.
 -- Assumes nothing.
 use mathlib.Core.Path.{◌≡◌, refl, ap, ap₂, sym, subst, subst⁻¹, ◌∙◌}
+use mathlib.Core.Bool.{Bool, true, false}
 use mathlib.Core.List.{List, [], ◌∷◌}
 use mathlib.Core.Option.{none, some}
 use Prim.Native.Nat.{ℕ, zero, suc, ◌+◌, ◌-◌, ◌*◌, ◌/◌, ◌%◌, ◌<◌, ◌≤◌}
@@ -8,7 +9,9 @@ use native.Mathlib.Omega.{arith}
 use native.Mathlib.Numerals.{add-one}
 use lib.ListN.{length, get_or, set, length-set}
 use lib.Seq.{get_or-set_other}
-use borrow.Author.Tests.{eq-eqb, ne_eqb}
+use lib.Dec.{eqb}
+use borrow.Author.Tests.{eq-eqb, ne_eqb, eqb-true, eqb-false}
+use Rattle.std.specs.Prelude.{Option, Some, None}
 use Rattle.numbers.specs.declared.Sort.{Sort}
 use Rattle.numbers.specs.declared.Sort.TheVariants.{Proposition, Datatype}
 use Rattle.numbers.specs.Records.{word_at, put_word}
@@ -16,15 +19,9 @@ use Rattle.numbers.proofs.Records.{word_far, word_same}
 use Rattle.rules.specs.Prop.{Ty}
 use Rattle.rules.specs.Context.{Ctx, find}
 use Rattle.context.specs.declared.identifier_context.Entry.{Entry}
-use Rattle.context.specs.declared.identifier_context.Found.{Found}
-use Rattle.context.specs.declared.identifier_context.Found.TheVariants.{Held, Nothing}
 use Rattle.context.specs.Context.{tag_of, number_of, sort_of, entry_at, SameEntries, Inserted, stands, ctx_at, found, Among, Latest}
 
 -- TYPES as two numbers, and back
-pub sort_data : (t n : ℕ) → (t ≡ 0 → ⊥) → Datatype (record { 0 = n }) ≡ sort_of t n
-sort_data zero n h = absurd (h refl)
-sort_data (suc t) n h = refl
-
 sort_back : (s : Sort) → sort_of (tag_of s) (number_of s) ≡ s
 sort_back (Proposition p) = refl
 sort_back (Datatype d) = refl
@@ -40,13 +37,6 @@ entry_kept old new m h =
     let w₄ = w (8 * m + 4) (omega arith) (omega arith) in
     let w₆ = w (8 * m + 6) (omega arith) (omega arith) in
     λ k. record { name = record { 0 = w₀ k }; serial = record { 0 = w₂ k }; typ = sort_of (w₄ k) (w₆ k) }
-
--- the four words one by one, as `entry_at` reads them
-pub entry_read : (w : List ℕ) (i x s t k : ℕ) (y : Sort) → x ≡ word_at w (8 * i) → s ≡ word_at w (8 * i + 2) → t ≡ word_at w (8 * i + 4) → k ≡ word_at w (8 * i + 6) → y ≡ sort_of t k → record { name = record { 0 = x }; serial = record { 0 = s }; typ = y } ≡ entry_at w i
-unfolding entry_at
-entry_read w i x s t k y qx qs qt qk qy =
-    let q : y ≡ sort_of (word_at w (8 * i + 4)) (word_at w (8 * i + 6)) = qy ∙ ap₂ sort_of qt qk in
-    λ j. record { name = record { 0 = qx j }; serial = record { 0 = qs j }; typ = q j }
 
 -- where the bytes below n entries are kept, so are the entries
 pub entries_kept : (old new : List ℕ) (n : ℕ) → ((i : ℕ) → i < 8 * n → get_or new i 0 ≡ get_or old i 0) → SameEntries n old new
@@ -155,7 +145,7 @@ pub ctx_inserted : (f : Sort → Ty) {old new : List ℕ} {n : ℕ} {e : Entry} 
 ctx_inserted f {old} {new} {n} p = ctx_more f new n ∙ ap₂ {C = Ctx} ◌∷◌ (ap (stands f) p.here) (ctx_below f n p (omega arith))
 
 -- LOOKING A NAME UP among the first i entries: the latest has it, or has not, or there is none
-find_here : (f : Sort → Ty) (w : List ℕ) (i x : ℕ) (e : Entry) → 0 < i → e ≡ entry_at w (i - 1) → e.name.0 ≡ x → found f (Held e) ≡ find x (ctx_at f w i)
+find_here : (f : Sort → Ty) (w : List ℕ) (i x : ℕ) (e : Entry) → 0 < i → e ≡ entry_at w (i - 1) → e.name.0 ≡ x → found f (Some e) ≡ find x (ctx_at f w i)
 unfolding ctx_at find
 find_here f w zero x e p q h = absurd (omega arith)
 find_here f w (suc n) x e p q h =
@@ -170,7 +160,7 @@ find_past f w (suc n) x e p q h =
     let m : n ≡ suc n - 1 = omega arith in
     rw (← d, ne_eqb x e.name.0 (λ s. h (sym s)), ← m) refl
 
-find_none : (f : Sort → Ty) (w : List ℕ) (i x : ℕ) → i ≤ 0 → found f Nothing ≡ find x (ctx_at f w i)
+find_none : (f : Sort → Ty) (w : List ℕ) (i x : ℕ) → i ≤ 0 → found f None ≡ find x (ctx_at f w i)
 unfolding ctx_at find
 find_none f w zero x h = refl
 find_none f w (suc n) x h = absurd (omega arith)
@@ -179,22 +169,23 @@ find_none f w (suc n) x h = absurd (omega arith)
 abbrev pub Decides : List ℕ → (n x i : ℕ) → Type 0
 Decides w n x i = (f : Sort → Ty) → find x (ctx_at f w n) ≡ find x (ctx_at f w i)
 
-pub decides_past : (w : List ℕ) (n i x : ℕ) (e : Entry) → 0 < i → Decides w n x i → e ≡ entry_at w (i - 1) → (e.name.0 ≡ x → ⊥) → Decides w n x (i - 1)
-decides_past w n i x e p l q h f = l f ∙ find_past f w i x e p q h
+module _ (w : List ℕ) (n i x : ℕ) (e : Entry) (p : 0 < i) (q : e ≡ entry_at w (i - 1)) (v : Bool) (ev : v ≡ eqb e.name.0 x) (l : Decides w n x i) where
+  pub decides_past : v ≡ false → Decides w n x (i - 1)
+  decides_past h f = l f ∙ find_past f w i x e p q (eqb-false e.name.0 x (sym ev ∙ h))
 
-pub latest_here : (w : List ℕ) (n i x : ℕ) (e : Entry) → 0 < i → i ≤ n → Decides w n x i → e ≡ entry_at w (i - 1) → e.name.0 ≡ x → Latest w n x (Held e)
-latest_here w n i x e p m l q h = record { finds = λ f. find_here f w i x e p q h ∙ sym (l f); among = (i - 1, omega arith, q) }
+  pub latest_here : i ≤ n → v ≡ true → Latest w n x (Some e)
+  latest_here m h = record { finds = λ f. find_here f w i x e p q (eqb-true e.name.0 x (sym ev ∙ h)) ∙ sym (l f); among = (i - 1, omega arith, q) }
 
-pub latest_none : (w : List ℕ) (n i x : ℕ) → i ≤ 0 → Decides w n x i → Latest w n x Nothing
+pub latest_none : (w : List ℕ) (n i x : ℕ) → i ≤ 0 → Decides w n x i → Latest w n x None
 latest_none w n i x z l = record { finds = λ f. find_none f w i x z ∙ sym (l f); among = tt }
 
 -- for the caller, who took the answer apart: what the rules find
-pub held_finds : (f : Sort → Ty) {w : List ℕ} {n x : ℕ} {r : Found} {e : Entry} → Latest w n x r → r ≡ Held e → find x (ctx_at f w n) ≡ some (stands f e)
+pub held_finds : (f : Sort → Ty) {w : List ℕ} {n x : ℕ} {r : Option Entry} {e : Entry} → Latest w n x r → r ≡ Some e → find x (ctx_at f w n) ≡ some (stands f e)
 held_finds f l q = sym (l.finds f) ∙ ap (found f) q
 
-pub nothing_finds : (f : Sort → Ty) {w : List ℕ} {n x : ℕ} {r : Found} → Latest w n x r → r ≡ Nothing → find x (ctx_at f w n) ≡ none
+pub nothing_finds : (f : Sort → Ty) {w : List ℕ} {n x : ℕ} {r : Option Entry} → Latest w n x r → r ≡ None → find x (ctx_at f w n) ≡ none
 nothing_finds f l q = sym (l.finds f) ∙ ap (found f) q
 
 -- what holds of each of the first n entries holds of the one that is held
-pub held_has : (P : Entry → Type 0) {w : List ℕ} {n x : ℕ} {r : Found} {e : Entry} → Latest w n x r → r ≡ Held e → ((i : ℕ) → i < n → P (entry_at w i)) → P e
+pub held_has : (P : Entry → Type 0) {w : List ℕ} {n x : ℕ} {r : Option Entry} {e : Entry} → Latest w n x r → r ≡ Some e → ((i : ℕ) → i < n → P (entry_at w i)) → P e
 held_has P {w} {n} l q h = let m = subst (Among w n) q l.among in subst⁻¹ P m.2 (h m.0 m.1)

@@ -1,7 +1,7 @@
 -- Document 01, "The rules" (lookup begins with the entry that came last) and "The shape of each place" (an entry holds its type): the
 -- entries that bytes hold, and the context of the rules that they stand for.
 -- Assumes nothing.
-use Rattle.std.specs.Prelude.{◌≡◌, List, [], ◌∷◌, ℕ, zero, suc, ◌+◌, ◌*◌, ◌<◌, ◌≤◌, length, get_or}
+use Rattle.std.specs.Prelude.{◌≡◌, List, [], ◌∷◌, ℕ, zero, suc, ◌+◌, ◌*◌, ◌<◌, ◌≤◌, length, get_or, Option as Optional, Some, None}
 use Rattle.std.proofs.Math.Option.{Option, none, some}
 use Rattle.numbers.specs.declared.Sort.{Sort}
 use Rattle.numbers.specs.declared.Sort.TheVariants.{Proposition, Datatype}
@@ -10,8 +10,6 @@ use Rattle.numbers.specs.Records.{word_at}
 use Rattle.rules.specs.Prop.{Ty}
 use Rattle.rules.specs.Context.{Entry as Hypothesis, Ctx, entry, find}
 use Rattle.context.specs.declared.identifier_context.Entry.{Entry}
-use Rattle.context.specs.declared.identifier_context.Found.{Found}
-use Rattle.context.specs.declared.identifier_context.Found.TheVariants.{Held, Nothing}
 
 -- the code's LIMIT and ROOM: no term enters more than two, and an entry takes eight bytes
 abbrev pub most_entries : ℕ
@@ -63,16 +61,16 @@ ctx_at f w zero = []
 ctx_at f w (suc n) = stands f (entry_at w n) ∷ ctx_at f w n
 
 -- what an answer is to the rules
-abbrev pub found : (Sort → Ty) → Found → Option Hypothesis
-found f (Held e) = some (stands f e)
-found f Nothing = none
+abbrev pub found : (Sort → Ty) → Optional Entry → Option Hypothesis
+found f (Some e) = some (stands f e)
+found f None = none
 
 -- what is held is one of the first n entries
-abbrev pub Among : List ℕ → ℕ → Found → Type 0
-Among w n (Held e) = (i : ℕ) × (i < n) × (e ≡ entry_at w i)
-Among w n Nothing = Unit {0}
+abbrev pub Among : List ℕ → ℕ → Optional Entry → Type 0
+Among w n (Some e) = (i : ℕ) × (i < n) × (e ≡ entry_at w i)
+Among w n None = Unit {0}
 
 -- the answer r for the name x is what the rules find, whatever types stand for
-pub record Latest (w : List ℕ) (n x : ℕ) (r : Found) : Type 0 where
+pub record Latest (w : List ℕ) (n x : ℕ) (r : Optional Entry) : Type 0 where
   pub finds : (f : Sort → Ty) → found f r ≡ find x (ctx_at f w n)
   pub among : Among w n r

@@ -14,18 +14,13 @@ pub struct Entry {
     pub typ: Sort,
 }
 
-#[derive(Clone, Copy)]
-pub enum Found {
-    Held(Entry),
-    Nothing,
-}
-
 // No term enters more than two. An entry takes eight bytes.
 pub const LIMIT: usize = 2 * (Term::LIMIT as usize);
 
 pub const ROOM: usize = 8 * LIMIT;
 
-// A type is kept as two numbers: a tag, 0 for a proposition and 1 for a datatype, and the number itself.
+// A type is kept as two numbers: a tag, 0 for a proposition and 1 for a datatype, and the number itself. (These are no `From`: the two numbers stand
+// in two places of the bytes.)
 pub fn sort_of(tag: u16, number: u16) -> Sort
     ensures { result ≡ sort_of tag number }
 {
@@ -53,7 +48,8 @@ fn number_of(typ: Sort) -> u16
     }
 }
 
-// Entry i; the oldest is entry 0. Only this function and `insert` know where an entry's bytes stand.
+// Entry i; the oldest is entry 0. Only this function and `insert` know where an entry's fields stand in its eight bytes.
+#[tactic(auto, unfolding(crate::specs::Context::entry_at))]
 pub fn entry_at(work: &[u8], i: usize) -> Entry
     requires { 8 * i + 8 ≤ length work.now }
     ensures { result ≡ entry_at work.now i }
@@ -72,25 +68,23 @@ pub fn insert(work: &mut [u8], len: usize, e: Entry)
     ensures { Inserted work.old len e work.new }
 {
     let at = 8 * len;
-    let typ = e.typ;
     put_word(work, at, e.name.0);
     put_word(work, at + 2, e.serial.0);
-    put_word(work, at + 4, tag_of(typ));
-    put_word(work, at + 6, number_of(typ));
+    put_word(work, at + 4, tag_of(e.typ));
+    put_word(work, at + 6, number_of(e.typ));
 }
 
-// Document 01: of entries with one name the one that came last counts.
-pub fn get_by_name(work: &[u8], len: usize, name: Name) -> Found
+// Document 01: of entries with one name the one that came last counts. (C lends the room, which holds more than the entries, so their number goes
+// beside it.)
+pub fn get_by_name(work: &[u8], len: usize, name: Name) -> Option<Entry>
     requires { 8 * len ≤ length work.now }
     ensures { Latest work.now len name.0 result }
 {
-    let mut i = len;
-    while 0 < i {
-        i -= 1;
+    for i in (0..len).rev() {
         let e = entry_at(work, i);
-        if e.name.0 == name.0 {
-            return Found::Held(e);
+        if e.name == name {
+            return Some(e);
         }
     }
-    Found::Nothing
+    None
 }

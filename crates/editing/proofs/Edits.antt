@@ -1,6 +1,7 @@
 -- The edited table of a table and a filling that pass their tests: it passes 2, 4, 5 and 7 by itself, so 3 and 6 settle that it passes. Its root stands for the old
 -- root with the filling, of as many nodes as that has terms, in place of one gap.
 -- Assumes nothing.
+use Rattle.std.specs.Prelude.{Option, Some, None, Ok, Err}
 use mathlib.Core.Path.{◌≡◌, refl, ap, sym, ◌∙◌}
 use mathlib.Core.Bool.{Bool, true, false, not, cond}
 use mathlib.Core.List.{List, []}
@@ -20,16 +21,14 @@ use Rattle.rules.specs.Tree.{Gap}
 use Rattle.rules.specs.Step.{check, ok, Answer}
 use Rattle.rules.specs.Rules.{run}
 use Rattle.rules.specs.Filling.{At as Stands}
-use Rattle.table.specs.declared.Guilty.{Guilty}
-use Rattle.table.specs.declared.Guilty.TheVariants.{At, Nobody}
 use Rattle.table.specs.declared.Purpose.TheVariants.{Check, Filling}
-use Rattle.table.specs.declared.Verdict.TheVariants.{Passes, Refused}
 use Rattle.table.specs.Links.{badly_linked_prop, badly_linked_term}
 use Rattle.table.specs.Reading.{prop_at, term_at}
 use Rattle.table.specs.Tests.{counts, or_term, formless, badly_linked, oversized, open_goal, unless, accused}
 use Rattle.table.specs.Tests.{from_goal, from_sizes, from_links, from_expected, from_forms, from_counts, tests}
 use Rattle.table.specs.Passing.{Counted, Formed, Linked, Directed, Good}
 use Rattle.table.proofs.Firsts.{first_nobody}
+use Rattle.table.proofs.Headers.{counted}
 use Rattle.table.proofs.Links.{directed, expected_in}
 use Rattle.table.proofs.Reading.{place_at}
 use Rattle.table.proofs.Counting.{nodes_root, gaps_one}
@@ -42,18 +41,26 @@ use Rattle.editing.proofs.Propositions.{prop_same}
 use Rattle.editing.proofs.Terms.{term_plugged, term_same}
 use Rattle.editing.proofs.Names.{edited_linked}
 
+-- ITS TESTS in one line
+pub in_order : (e : List ℕ) → edited_tests e ≡ unless (counts e) 3 (accused 6 (oversized e) (Ok tt))
+unfolding edited_tests edited_from_sizes
+in_order e = refl
+
+-- what the code of these tests leans on
+pub ruleset in_turn = (in_order, counted)
+
 -- TESTS 4 AND 5 find nobody
-nobody : (g h : Guilty) (p : ℕ) → g ≡ Nobody → h ≡ Nobody → or_term g p h ≡ Nobody
+nobody : (g h : Option ℕ) (p : ℕ) → g ≡ None → h ≡ None → or_term g p h ≡ None
 unfolding or_term
 nobody g h p x y = rw (x, y)
 
-none_formless : (l : List ℕ) → Formed l → formless l ≡ Nobody
+none_formless : (l : List ℕ) → Formed l → formless l ≡ None
 unfolding formless
 none_formless l f =
     nobody _ _ (props l) (first_nobody (λ n. not (prop_form (prop_record l n))) (props l) (λ n k. ap not (f.prop n k)))
     (first_nobody (λ t. not (term_form (term_record l t))) (terms l) (λ t k. ap not (f.term t k)))
 
-none_badly_linked : (l : List ℕ) → Linked Check l → badly_linked Check l ≡ Nobody
+none_badly_linked : (l : List ℕ) → Linked Check l → badly_linked Check l ≡ None
 unfolding badly_linked
 none_badly_linked l h = nobody _ _ (props l) (first_nobody (badly_linked_prop Check l) (props l) h.prop) (first_nobody (badly_linked_term l) (terms l) h.term)
 
@@ -150,7 +157,7 @@ module _ {old f : List ℕ} {q : ℕ} (h : Fillable old f q) where
         ap (λ (n : ℕ). closed (prop_at e n)) (expected_joined E) ∙ ap closed (whole_prop E (expected old) (expected_in o.linked)) ∙ good_closed old h.old_good
 
     -- so tests 3 and 6 settle the rest
-    edited_uncounted : counts e ≡ false → Refused (refusal_at 3 0) ≡ tests Check e
+    edited_uncounted : counts e ≡ false → Err (refusal_at 3 0) ≡ tests Check e
     unfolding tests from_counts unless
     edited_uncounted c = rw (header_joined E o.marked, c)
 
@@ -165,15 +172,15 @@ module _ {old f : List ℕ} {q : ℕ} (h : Fillable old f q) where
           none_badly_linked e edited_in_order,
         )
 
-    edited_large : (i : ℕ) → oversized e ≡ At i → Refused (refusal_at 6 i) ≡ from_sizes Check e
+    edited_large : (i : ℕ) → oversized e ≡ Some i → Err (refusal_at 6 i) ≡ from_sizes Check e
     unfolding from_sizes accused
     edited_large i big = rw big
 
-    edited_small : oversized e ≡ Nobody → from_sizes Check e ≡ Passes
+    edited_small : oversized e ≡ None → from_sizes Check e ≡ Ok tt
     unfolding from_sizes from_goal open_goal accused
     edited_small small = rw (small, edited_closed)
 
-    pub edited_passes : counts e ≡ true → oversized e ≡ Nobody → Good Check e
+    pub edited_passes : counts e ≡ true → oversized e ≡ None → Good Check e
     edited_passes c small = edited_counted c ∙ edited_small small
 
     -- and its tests are those of a check
@@ -181,10 +188,10 @@ module _ {old f : List ℕ} {q : ℕ} (h : Fillable old f q) where
     unfolding edited_tests edited_from_sizes unless accused
     edited_verdict = at (counts e) refl (oversized e) refl
       where
-        at : (b : Bool) → counts e ≡ b → (g : Guilty) → oversized e ≡ g → unless b 3 (accused 6 g Passes) ≡ tests Check e
-        at true c Nobody small = sym (edited_passes c small)
-        at true c (At i) big = edited_large i big ∙ sym (edited_counted c)
+        at : (b : Bool) → counts e ≡ b → (g : Option ℕ) → oversized e ≡ g → unless b 3 (accused 6 g (Ok tt)) ≡ tests Check e
+        at true c None small = sym (edited_passes c small)
+        at true c (Some i) big = edited_large i big ∙ sym (edited_counted c)
         at false c g small = edited_uncounted c
 
-    pub edited_good : edited_tests e ≡ Passes → Good Check e
+    pub edited_good : edited_tests e ≡ Ok tt → Good Check e
     edited_good z = sym edited_verdict ∙ z

@@ -1,6 +1,6 @@
 -- The code that moves a record's links: no number overflows, and the record is the moved one.
 -- Assumes nothing.
-use mathlib.Core.Path.{◌≡◌, refl, ap, sym, subst, subst⁻¹, ◌∙◌}
+use mathlib.Core.Path.{◌≡◌, ap, sym, subst, ◌∙◌}
 use mathlib.Core.Bool.{Bool, true, cond}
 use mathlib.Core.List.{[], ◌∷◌}
 use Prim.Native.Nat.{ℕ, zero, suc, ◌+◌, ◌-◌, ◌≤◌}
@@ -16,10 +16,8 @@ use Rattle.layout.specs.File.{as_term, prop_kind, kind_of}
 use Rattle.layout.specs.Form.{prop_shape, term_shape}
 use Rattle.table.specs.Links.{prop_children, term_children, annotation_links}
 use Rattle.table.proofs.Sums.{hit_here, hit_later}
-use Rattle.editing.specs.declared.moving.Change.{Change}
-use Rattle.editing.specs.declared.moving.Change.TheVariants as to
 use Rattle.editing.specs.Edited.{moved_children, moved_prop, moved_subterms, moved_term}
-use Rattle.editing.specs.Copied.{changed, Within, PropMoves, TermMoves, Moves}
+use Rattle.editing.specs.Copied.{Within, PropMoves, TermMoves}
 
 -- A FIELD THAT IS A LINK is one of the links
 module _ (most : ℕ) (r : Record) where
@@ -116,24 +114,3 @@ module _ {p t : ℕ} {r : Record} (h : TermMoves p t r) where
     term_moved v x y z d a b c =
         (λ i. record { kind = r.kind; count = r.count; a = d i; b = r.b; c = r.c; parameters = subterm (ltb 0 s.children) (get_or r.parameters 0 0) x a i ∷ subterm (ltb 1 s.children) (get_or r.parameters 1 0) y b i ∷ subterm (ltb 2 s.children) (get_or r.parameters 2 0) z c i ∷ get_or r.parameters 3 0 ∷ [] })
         ∙ ap (λ (s : TermShape). moved_subterms s.children p t r) e
-
--- WHAT BECOMES OF A RECORD, by the change that is asked for
-module _ (change : Change) (r : Record) where
-  pub prop_told : (p : ℕ) → change ≡ to.Proposition p → Moves change r → PropMoves p r
-  prop_told p e h = subst (λ k. Moves k r) e h
-
-  pub term_told : (p t : ℕ) → change ≡ to.Term p t → Moves change r → TermMoves p t r
-  term_told p t e h = subst (λ k. Moves k r) e h
-
-  pub stays : change ≡ to.Stays → r ≡ changed change r
-  unfolding changed
-  stays e = subst⁻¹ (λ k. r ≡ changed k r) e refl
-
-  module _ (m : Record) where
-    pub prop_changed : (p : ℕ) → change ≡ to.Proposition p → m ≡ moved_prop p r → m ≡ changed change r
-    unfolding changed
-    prop_changed p e x = subst⁻¹ (λ k. m ≡ changed k r) e x
-
-    pub term_changed : (p t : ℕ) → change ≡ to.Term p t → m ≡ moved_term p t r → m ≡ changed change r
-    unfolding changed
-    term_changed p t e x = subst⁻¹ (λ k. m ≡ changed k r) e x

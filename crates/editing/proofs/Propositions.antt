@@ -1,5 +1,6 @@
 -- The propositions of a table joined with a filling: the old ones stand for what they stood for.
 -- Assumes nothing.
+use Rattle.std.specs.Prelude.{Option, Some, None}
 use mathlib.Core.Path.{◌≡◌, refl, ap, sym, subst, ◌∙◌}
 use mathlib.Core.Bool.{Bool, true, false}
 use mathlib.Core.List.{List, map}
@@ -11,8 +12,6 @@ use borrow.Author.Tests.{ltb-true, ltb-false, le-ltb}
 use Rattle.numbers.specs.declared.record.Record.{Record}
 use Rattle.layout.specs.File.{props, prop_record, PropKind, constant, linked, quantified, atomic, strange, prop_kind}
 use Rattle.rules.specs.Prop.{Prop, atom, table}
-use Rattle.table.specs.declared.Guilty.{Guilty}
-use Rattle.table.specs.declared.Guilty.TheVariants.{At, Nobody}
 use Rattle.table.specs.Links.{prop_links, hits}
 use Rattle.table.specs.Reading.{first, parent, object, above, binders_within, binders, settled, prop_of, prop_within, prop_at}
 use Rattle.table.specs.Passing.{Directed}
@@ -46,17 +45,17 @@ module _ (t u : ℕ → Bool) (a b : ℕ) (same : (i : ℕ) → i < a → u i �
   first_longer : first u (a + b) ≡ first t a
   first_longer = at (first u (a + b)) refl (first t a) refl
     where
-      at : (g : Guilty) → first u (a + b) ≡ g → (h : Guilty) → first t a ≡ h → first u (a + b) ≡ first t a
-      at (At i) e (At j) d =
+      at : (g : Option ℕ) → first u (a + b) ≡ g → (h : Option ℕ) → first t a ≡ h → first u (a + b) ≡ first t a
+      at (Some i) e (Some j) d =
           let x = first_at u (a + b) i e in
           let y = first_at t a j d in
           let k = early i x.0 x.1 in
-          e ∙ ap At (least_only t i j (sym (same i k) ∙ x.1) y.1 (λ m l. sym (same m (omega arith)) ∙ x.2 m l) y.2) ∙ sym d
-      at (At i) e Nobody d =
+          e ∙ ap Some (least_only t i j (sym (same i k) ∙ x.1) y.1 (λ m l. sym (same m (omega arith)) ∙ x.2 m l) y.2) ∙ sym d
+      at (Some i) e None d =
           let x = first_at u (a + b) i e in
           let k = early i x.0 x.1 in
           absurd (never (t i) (sym (same i k) ∙ x.1) (first_clear t a d i k))
-      at Nobody e h d = e ∙ sym (first_nobody t a (λ i k. sym (same i k) ∙ first_clear u (a + b) e i (omega arith)))
+      at None e h d = e ∙ sym (first_nobody t a (λ i k. sym (same i k) ∙ first_clear u (a + b) e i (omega arith)))
 
 -- PROPOSITIONS of one reading in another table, if the quantifiers above are the same
 prop_of_binders : (l l' : List ℕ) (n : ℕ) (sub : ℕ → Prop) (K : PropKind) (r : Record) → binders l n ≡ binders l' n → prop_of l n sub K r ≡ prop_of l' n sub K r
@@ -81,11 +80,11 @@ module _ (l l' : List ℕ) (d : Directed l) (more : props l ≤ props l') (same 
   within_same : (c n : ℕ) → n < props l → binders_within c l' n ≡ binders_within c l n
   unfolding binders_within above
   within_same zero n k = refl
-  within_same (suc c) n k = ap (λ (g : Guilty). above l' g (binders_within c l')) (parent_same n k) ∙ at (parent l n) refl (within_same c)
+  within_same (suc c) n k = ap (λ (g : Option ℕ). above l' g (binders_within c l')) (parent_same n k) ∙ at (parent l n) refl (within_same c)
     where
-      at : (g : Guilty) → parent l n ≡ g → ((m : ℕ) → m < props l → binders_within c l' m ≡ binders_within c l m) → above l' g (binders_within c l') ≡ above l g (binders_within c l)
-      at Nobody z rest = refl
-      at (At m) z rest =
+      at : (g : Option ℕ) → parent l n ≡ g → ((m : ℕ) → m < props l → binders_within c l' m ≡ binders_within c l m) → above l' g (binders_within c l') ≡ above l g (binders_within c l)
+      at None z rest = refl
+      at (Some m) z rest =
           let x : m < props l = (parent_above d m n z).0 in
           λ i. object (prop_kind (same m x i).kind) (same m x i).a (rest m x i)
 

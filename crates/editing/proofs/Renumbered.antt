@@ -1,5 +1,6 @@
 -- The filling's propositions and terms in the edited table: what they stood for, with the records' new numbers.
 -- Assumes nothing.
+use Rattle.std.specs.Prelude.{Option as Optional, Some, None}
 use mathlib.Core.Path.{◌≡◌, refl, ap, sym, subst⁻¹, ◌∙◌}
 use mathlib.Core.Bool.{Bool, false, cond}
 use mathlib.Core.List.{List, [], map, map-id}
@@ -15,8 +16,6 @@ use Rattle.layout.specs.File.{props, terms, prop_record, term_record, as_term, P
 use Rattle.layout.specs.Form.{prop_shape, term_shape}
 use Rattle.rules.specs.Prop.{Prop, link, quant, atom, table, Ty, prop, walk}
 use Rattle.rules.specs.Term.{Single, Double, Triple, Term, single, double, triple, plug}
-use Rattle.table.specs.declared.Guilty.{Guilty}
-use Rattle.table.specs.declared.Guilty.TheVariants.{At, Nobody}
 use Rattle.table.specs.Links.{prop_children, prop_links, term_children, annotation_links, hits}
 use Rattle.table.specs.Reading.{first, parent, object, above, binders_within, binders, settled, prop_of, prop_at, type_of, ascribed, term_of, annotated, term_at}
 use Rattle.table.specs.Passing.{Directed}
@@ -33,9 +32,9 @@ use Rattle.editing.proofs.Propositions.{never, least_only}
 use Rattle.editing.proofs.Edits.{replaces, whole_prop, whole_directed, filled_term}
 
 -- A SEARCH that finds nobody among the first a numbers
-abbrev shifted : ℕ → Guilty → Guilty
-shifted a (At i) = At (a + i)
-shifted a Nobody = Nobody
+abbrev shifted : ℕ → Optional ℕ → Optional ℕ
+shifted a (Some i) = Some (a + i)
+shifted a None = None
 
 module _ (t u : ℕ → Bool) (a b : ℕ) (early : (i : ℕ) → i < a → u i ≡ false) (same : (i : ℕ) → i < b → u (a + i) ≡ t i) where
   clear : (n : ℕ) → n ≤ b → ((m : ℕ) → m < n → t m ≡ false) → (m : ℕ) → m < a + n → u m ≡ false
@@ -48,16 +47,16 @@ module _ (t u : ℕ → Bool) (a b : ℕ) (early : (i : ℕ) → i < a → u i �
   first_later : first u (a + b) ≡ shifted a (first t b)
   first_later = at (first u (a + b)) refl (first t b) refl
     where
-      at : (g : Guilty) → first u (a + b) ≡ g → (h : Guilty) → first t b ≡ h → first u (a + b) ≡ shifted a (first t b)
-      at (At i) e (At j) d =
+      at : (g : Optional ℕ) → first u (a + b) ≡ g → (h : Optional ℕ) → first t b ≡ h → first u (a + b) ≡ shifted a (first t b)
+      at (Some i) e (Some j) d =
           let x = first_at u (a + b) i e in
           let y = first_at t b j d in
-          e ∙ ap At (least_only u i (a + j) x.1 (same j y.0 ∙ y.1) x.2 (clear j (omega arith) y.2)) ∙ sym (ap (shifted a) d)
-      at (At i) e Nobody d = let x = first_at u (a + b) i e in absurd (never (u i) x.1 (clear b (omega arith) (first_clear t b d) i x.0))
-      at Nobody e (At j) d =
+          e ∙ ap Some (least_only u i (a + j) x.1 (same j y.0 ∙ y.1) x.2 (clear j (omega arith) y.2)) ∙ sym (ap (shifted a) d)
+      at (Some i) e None d = let x = first_at u (a + b) i e in absurd (never (u i) x.1 (clear b (omega arith) (first_clear t b d) i x.0))
+      at None e (Some j) d =
           let y = first_at t b j d in
           absurd (never (u (a + j)) (same j y.0 ∙ y.1) (first_clear u (a + b) e (a + j) (omega arith)))
-      at Nobody e Nobody d = e ∙ sym (ap (shifted a) d)
+      at None e None d = e ∙ sym (ap (shifted a) d)
 
 -- PROPOSITIONS. A moved quantifier keeps its object name
 object_moved : (p : ℕ) (K : PropKind) (r : Record) (xs : List ℕ) → object K (moved_children (prop_shape K).children p r).a xs ≡ object K r.a xs
@@ -105,11 +104,11 @@ module _ {old f : List ℕ} {q : ℕ} {r : Record} {e : List ℕ} (J : Joined ol
   within_moved : (c j : ℕ) → j < props f → binders_within c e (p + j) ≡ binders_within c f j
   unfolding binders_within above
   within_moved zero j k = refl
-  within_moved (suc c) j k = ap (λ (g : Guilty). above e g (binders_within c e)) (parent_moved j) ∙ at (parent f j) refl (within_moved c)
+  within_moved (suc c) j k = ap (λ (g : Optional ℕ). above e g (binders_within c e)) (parent_moved j) ∙ at (parent f j) refl (within_moved c)
     where
-      at : (g : Guilty) → parent f j ≡ g → ((m : ℕ) → m < props f → binders_within c e (p + m) ≡ binders_within c f m) → above e (shifted p g) (binders_within c e) ≡ above f g (binders_within c f)
-      at Nobody z rest = refl
-      at (At m) z rest =
+      at : (g : Optional ℕ) → parent f j ≡ g → ((m : ℕ) → m < props f → binders_within c e (p + m) ≡ binders_within c f m) → above e (shifted p g) (binders_within c e) ≡ above f g (binders_within c f)
+      at None z rest = refl
+      at (Some m) z rest =
           let x : m < props f = (parent_above df m j z).0 in
           (λ i. object (prop_kind (J.added_prop m x i).kind) (J.added_prop m x i).a (rest m x i))
           ∙ object_moved p (prop_kind (prop_record f m).kind) (prop_record f m) (binders_within c f m)

@@ -11,10 +11,8 @@ use Rattle.numbers.specs.Records.{record_at, Put}
 use Rattle.layout.specs.File.{props, terms}
 use Rattle.table.specs.Passing.{Counted, Directed}
 use Rattle.table.proofs.Links.{child_below, term_child, annotation_in}
-use Rattle.editing.specs.declared.moving.Change.{Change}
-use Rattle.editing.specs.declared.moving.Change.TheVariants as to
 use Rattle.editing.specs.Edited.{new_term, moved_prop, moved_term, all_props, all_terms, edited_size, recounted, term_bytes, Joined, Edited}
-use Rattle.editing.specs.Copied.{changed, PropMoves, TermMoves, Moves, RowMoves, Copied, Waiting}
+use Rattle.editing.specs.Copied.{PropMoves, TermMoves, Copied, Waiting}
 use Rattle.editing.proofs.Joins.{same_or, props_joined}
 
 -- A ROW, record by record
@@ -52,35 +50,19 @@ module _ {old f : List ℕ} (o : Counted old) (g : Counted f) (d : Directed f) w
 
   -- in rows, with the counts as the code has them
   module _ (P p : ℕ) (P-is : P ≡ props old) (p-is : p ≡ props f) where
-    pub prop_row : RowMoves (to.Proposition P) f 1 p
+    pub prop_row : (i : ℕ) → i < p → PropMoves P (record_at f (1 + i))
     prop_row i k =
         let next : i + 1 ≡ 1 + i = omega arith in
         subst (λ n. PropMoves P (record_at f n)) next
         record { room = omega (arith, o.propositions); links = λ m x. omega (arith, child_below d i m (omega arith) x, g.propositions) }
 
-    pub term_row : (T t : ℕ) → T ≡ terms old → t ≡ terms f → RowMoves (to.Term P T) f (p + 2) (t - 1)
+    pub term_row : (T t : ℕ) → T ≡ terms old → t ≡ terms f → (i : ℕ) → i < t - 1 → TermMoves P T (record_at f (p + 2 + i))
     term_row T t T-is t-is i k = transport (λ j. TermMoves (sym P-is j) (sym T-is j) (record_at f (p + 2 + i))) (term_moves (i + 1) (p + 2 + i) (omega arith) (omega arith))
 
-  -- its root in particular, with what the code knows of it
+  -- its root in particular
   module _ (p t : ℕ) (p-is : p ≡ props old) (t-is : t ≡ terms old) (r : Record) (r-is : r ≡ term_bytes f 0) where
     pub root_moves : TermMoves p t r
     root_moves = transport (λ i. TermMoves (sym p-is i) (sym t-is i) (sym r-is i)) (term_moves 0 (props f + 0 + 1) g.some refl)
-
-    pub root_moved : (m : Record) → m ≡ moved_term p t r → m ≡ moved_term (props old) (terms old) (term_bytes f 0)
-    root_moved m x = x ∙ (λ i. moved_term (p-is i) (t-is i) (r-is i))
-
-pub row_at : (change : Change) (src : List ℕ) (first n i : ℕ) (r : Record) → RowMoves change src first n → i < n → r ≡ record_at src (first + i) → Moves change r
-row_at change src first n i r h k e = subst⁻¹ (Moves change) e (h i k)
-
--- WHERE THE CODE READS AND WRITES, with what it knows of the counts
-pub term_at_count : (l : List ℕ) (p t : ℕ) (r : Record) → p ≡ props l → r ≡ record_at l (p + t + 1) → r ≡ term_bytes l t
-term_at_count l p t r e h = h ∙ ap (λ (n : ℕ). record_at l (n + t + 1)) e
-
-pub put_at_count : (l : List ℕ) (p t : ℕ) (r : Record) (new : List ℕ) → p ≡ props l → Put l (p + t + 1) r new → Put l (props l + t + 1) r new
-put_at_count l p t r new e h = subst (λ n. Put l (n + t + 1) r new) e h
-
-pub header_put : (old l new : List ℕ) (h : Record) (p t : ℕ) → h ≡ record_at old 0 → Put l 0 (recounted p t h) new → Put l 0 (recounted p t (record_at old 0)) new
-header_put old l new h p t e x = subst (λ h. Put l 0 (recounted p t h) new) e x
 
 props_at : (l : List ℕ) → props l ≡ (record_at l 0).c
 unfolding record_at
@@ -110,10 +92,10 @@ module _ {old f : List ℕ} {q : ℕ} {r : Record} {e : List ℕ} (J : Joined ol
 module _ (old f : List ℕ) (P T p t : ℕ) (P-is : P ≡ props old) (T-is : T ≡ terms old) (p-is : p ≡ props f) (t-is : t ≡ terms f) (some : 1 ≤ terms f)
     (e₀ : List ℕ) (long : length e₀ ≡ edited_size old f)
     (e₁ : List ℕ) (h : Put e₀ 0 (recounted (P + p) (T + (t - 1)) (record_at old 0)) e₁)
-    (e₂ : List ℕ) (a : Copied (changed to.Stays) old 1 P e₁ 1 e₂)
-    (e₃ : List ℕ) (b : Copied (changed (to.Proposition P)) f 1 p e₂ (P + 1) e₃)
-    (e₄ : List ℕ) (c : Copied (changed to.Stays) old (P + 1) T e₃ (P + p + 1) e₄)
-    (e : List ℕ) (d : Copied (changed (to.Term P T)) f (p + 2) (t - 1) e₄ (P + p + T + 1) e) where
+    (e₂ : List ℕ) (a : Copied (λ r. r) old 1 P e₁ 1 e₂)
+    (e₃ : List ℕ) (b : Copied (moved_prop P) f 1 p e₂ (P + 1) e₃)
+    (e₄ : List ℕ) (c : Copied (λ r. r) old (P + 1) T e₃ (P + p + 1) e₄)
+    (e : List ℕ) (d : Copied (moved_term P T) f (p + 2) (t - 1) e₄ (P + p + T + 1) e) where
   head : record_at e 0 ≡ recounted (P + p) (T + (t - 1)) (record_at old 0)
   head = d.before 0 (omega arith) ∙ c.before 0 (omega arith) ∙ b.before 0 (omega arith) ∙ a.before 0 (omega arith) ∙ h.here
 
@@ -121,7 +103,6 @@ module _ (old f : List ℕ) (P T p t : ℕ) (P-is : P ≡ props old) (T-is : T �
   term_place n m z = ap (λ (x : ℕ). record_at e (x + n + 1)) (props_at e ∙ ap (λ (h : Record). h.c) head) ∙ ap (record_at e) z
 
   kept : (n : ℕ) → n < terms old → term_bytes e n ≡ term_bytes old n
-  unfolding changed
   kept n x =
       term_place n (P + p + 1 + n) (omega arith)
       ∙ d.before (P + p + 1 + n) (omega arith)
@@ -129,7 +110,6 @@ module _ (old f : List ℕ) (P T p t : ℕ) (P-is : P ≡ props old) (T-is : T �
       ∙ ap (record_at old) (omega arith)
 
   pub rows_joined : Waiting old f e
-  unfolding changed
   rows_joined q k =
       record {
         size = d.size ∙ c.size ∙ b.size ∙ a.size ∙ h.size ∙ long;

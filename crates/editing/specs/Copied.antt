@@ -6,15 +6,7 @@ use Rattle.numbers.specs.Limits.{most_propositions, most_terms}
 use Rattle.numbers.specs.Records.{record_at}
 use Rattle.layout.specs.File.{terms, as_term}
 use Rattle.table.specs.Links.{prop_links, term_links, annotation, hits}
-use Rattle.editing.specs.declared.moving.Change.{Change}
-use Rattle.editing.specs.declared.moving.Change.TheVariants as to
-use Rattle.editing.specs.Edited.{moved_prop, moved_term, term_bytes, Joined}
-
--- what becomes of a record
-unfoldable pub changed : Change → Record → Record
-changed to.Stays r = r
-changed (to.Proposition p) r = moved_prop p r
-changed (to.Term p t) r = moved_term p t r
+use Rattle.editing.specs.Edited.{term_bytes, Joined}
 
 -- NO NUMBER OVERFLOWS when it is moved: the links, and the counts of the table that they come to, are within a table's limits
 abbrev pub Within : ℕ → List ℕ → Type 0
@@ -31,19 +23,15 @@ pub record TermMoves (p t : ℕ) (r : Record) : Type 0 where
   pub links : Within most_terms (term_links (as_term r))
   pub typ : Within most_propositions (annotation (as_term r))
 
-abbrev pub Moves : Change → Record → Type 0
-Moves to.Stays r = Unit {0}
-Moves (to.Proposition p) r = PropMoves p r
-Moves (to.Term p t) r = TermMoves p t r
-
-abbrev pub RowMoves : Change → (src : List ℕ) (first n : ℕ) → Type 0
-RowMoves change src first n = (i : ℕ) → i < n → Moves change (record_at src (first + i))
-
 -- n RECORDS IN A ROW of the list src, from number `first` on, stand in `new` from number `to` on, changed by g; those before them are as in `old`
 pub record Copied (g : Record → Record) (src : List ℕ) (first n : ℕ) (old : List ℕ) (to : ℕ) (new : List ℕ) : Type 0 where
   pub size : length new ≡ length old
   pub here : (i : ℕ) → i < n → record_at new (to + i) ≡ g (record_at src (first + i))
   pub before : (m : ℕ) → m < to → record_at new m ≡ record_at old m
+
+-- what is done to each of them, as `done` says it, is g
+abbrev pub ChangesRow : (done : Record → Record → Type 0) (g : Record → Record) (src : List ℕ) (first n : ℕ) → Type 0
+ChangesRow done g src first n = (i : ℕ) (r m : Record) → i < n → r ≡ record_at src (first + i) → done r m → m ≡ g r
 
 -- ALL ROWS: the table joined with the filling f while every term of the old one, a Sorry record too, is as it was
 abbrev pub Waiting : (old f e : List ℕ) → Type 0

@@ -1,15 +1,14 @@
 -- Document 01, "Tree, goals, filling": the edited table. Where the old table has the Sorry record it has the filling's root; all other records of the filling
 -- stand behind the old ones of their sort, and each link follows its record. Names, datatypes and predicates stay.
 -- Assumes nothing.
-use Rattle.std.specs.Prelude.{◌≡◌, cond, List, [], ◌∷◌, ℕ, ◌+◌, ◌-◌, ◌*◌, ◌<◌, length, get_or, eqb, ltb}
+use Rattle.std.specs.Prelude.{◌≡◌, cond, List, [], ◌∷◌, ℕ, ◌+◌, ◌-◌, ◌*◌, ◌<◌, length, get_or, eqb, ltb, Result, ⊤, Ok}
 use Rattle.numbers.specs.declared.record.Record.{Record}
+use Rattle.numbers.specs.declared.refusal.Refusal.{Refusal}
 use Rattle.numbers.specs.Records.{record_at}
 use Rattle.numbers.specs.Limits.{most_propositions, most_terms}
 use Rattle.layout.specs.File.{props, terms, file_size, prop_record, term_record, prop_kind, Sorry, kind_of}
 use Rattle.layout.specs.Form.{prop_shape, term_shape}
 use Rattle.table.specs.declared.Purpose.TheVariants.{Check, Filling}
-use Rattle.table.specs.declared.Verdict.{Verdict}
-use Rattle.table.specs.declared.Verdict.TheVariants.{Passes}
 use Rattle.table.specs.Tests.{counts, oversized, unless, accused}
 use Rattle.table.specs.Passing.{Good}
 
@@ -109,8 +108,8 @@ abbrev pub Edited : (old f : List ℕ) → ℕ → List ℕ → Type 0
 Edited old f q e = Joined old f q (moved_term (props old) (terms old) (term_bytes f 0)) e
 
 -- ITS TESTS: 3, then 6, from the last one up as the table's own
-unfoldable pub edited_from_sizes : List ℕ → Verdict
-edited_from_sizes e = accused 6 (oversized e) Passes
+unfoldable pub edited_from_sizes : List ℕ → Result ⊤ Refusal
+edited_from_sizes e = accused 6 (oversized e) (Ok tt)
 
-unfoldable pub edited_tests : List ℕ → Verdict
+unfoldable pub edited_tests : List ℕ → Result ⊤ Refusal
 edited_tests e = unless (counts e) 3 (edited_from_sizes e)

@@ -1,25 +1,26 @@
 // Floor 2, above the tests: the edited table, which is the old one with a filling in the place of a Sorry record.
 #![tactic(auto)]
 
-ghost use Rattle.std.specs.Prelude.{◌≡◌, ◌+◌, ◌*◌, ◌≤◌, length};
+ghost use Rattle.std.specs.Prelude.{◌≡◌, ℕ, ◌+◌, ◌*◌, ◌<◌, ◌≤◌, length};
+ghost use Rattle.numbers.specs.declared.record.Record.{Record};
 ghost use Rattle.numbers.specs.Records.{record_at, Put};
 ghost use Rattle.layout.specs.File.{props, terms};
 ghost use Rattle.table.specs.Passing.{Counted, Directed, WellLinked};
 ghost use Rattle.table.specs.Tests.{test_room};
 ghost use Rattle.editing.specs.Edited.{recounted, term_bytes, moved_term, edited_size, edited_bytes, Fillable, Edited};
-ghost use Rattle.editing.specs.Edited.{edited_from_sizes, edited_tests};
-ghost use Rattle.editing.specs.Copied.{changed, RowMoves, Copied, Waiting};
+ghost use Rattle.editing.specs.Edited.{edited_tests};
+ghost use Rattle.editing.specs.Copied.{ChangesRow, Copied, Waiting};
 
 mod moving;
 
 use layout::header::{file_size, proposition_count, term_count};
-use moving::{Change, change_record, move_term};
+use moving::{move_prop, move_term};
 use numbers::record::{Record, put, record_at};
-use numbers::refusal::Refusal;
+use numbers::refusal::{Reason, Refusal};
 use numbers::{Proposition, Term};
 use table::opening::well_counted;
 use table::size::oversized;
-use table::{Guilty, Verdict};
+use table::verdict::{guiltless, holds};
 
 // The longest edited table: a header, and twice the records that a table may have, but for the filling's root.
 pub const EDITED: usize = 16
@@ -41,8 +42,8 @@ pub fn term_record(table: &[u8], t: Term) -> Record
     requires { 16 * (props table.now + t.0 + 1) + 16 ≤ length table.now }
     ensures { result ≡ term_bytes table.now t.0 }
 {
-    let p = proposition_count(table) as usize;
-    record_at(table, p + t.0 as usize + 1)
+    let p = usize::from(proposition_count(table));
+    record_at(table, p + usize::from(t.0) + 1)
 }
 
 // Another record for term t.
@@ -50,8 +51,8 @@ pub fn put_term(table: &mut [u8], t: Term, r: Record)
     requires { 16 * (props table.old + t.0 + 1) + 16 ≤ length table.old }
     ensures { Put table.old (props table.old + t.0 + 1) r table.new }
 {
-    let p = proposition_count(table) as usize;
-    put(table, p + t.0 as usize + 1, r);
+    let p = usize::from(proposition_count(table));
+    put(table, p + usize::from(t.0) + 1, r);
 }
 
 // The filling's root as it stands in the edited table.
@@ -72,29 +73,29 @@ fn put_header(old: &[u8], p: u16, t: u16, table: &mut [u8])
 {
     let h = record_at(old, 0);
     let counted = Record {
-        kind: h.kind,
-        count: h.count,
-        a: h.a,
-        b: h.b,
         c: p,
         parameters: [t, h.parameters[1], h.parameters[2], h.parameters[3]],
+        ..h
     };
     put(table, 0, counted);
 }
 
-// n records of `source`, the first at number `first`, go into the table from number `to` on. What stands behind them there is not
-// settled: the table is written from front to back.
-fn copy(source: &[u8], first: usize, n: usize, change: Change, table: &mut [u8], to: usize)
+// n records of `source`, the first at number `first`, go into the table from number `to` on, each changed. What stands behind them
+// there is not settled: the table is written from front to back.
+fn copy<F: Fn(Record) -> Record>(
+    source: &[u8],
+    first: usize,
+    n: usize,
+    change: F,
+    table: &mut [u8],
+    to: usize,
+)
     requires n_in_bounds { (16 * (first + n) ≤ length source.now) × (16 * (to + n) ≤ length table.old) }
-    requires row_moves { RowMoves change source.now first n }
-    ensures { Copied (changed change) source.now first n table.old to table.new }
+    requires changes { (i : ℕ) → i < n → F.pre change (record_at source.now (first + i)) }
+    ensures { (g : Record → Record) → (ChangesRow (F.post change) g source.now first n) → Copied g source.now first n table.old to table.new }
 {
-    let mut i = 0;
-    while i < n {
-        let r = record_at(source, first + i);
-        let q = change_record(r, change);
-        put(table, to + i, q);
-        i += 1;
+    for i in 0..n {
+        put(table, to + i, change(record_at(source, first + i)));
     }
 }
 
@@ -115,14 +116,14 @@ fn join(old: &[u8], filling: &[u8], table: &mut [u8])
     let ts = t as usize;
     let more_ps = more_p as usize;
     let more_ts = more_t as usize;
-    copy(old, 1, ps, Change::Stays, table, 1);
-    copy(filling, 1, more_ps, Change::Proposition(p), table, ps + 1);
-    copy(old, ps + 1, ts, Change::Stays, table, ps + more_ps + 1);
+    copy(old, 1, ps, |r| r, table, 1);
+    copy(filling, 1, more_ps, |r| move_prop(r, p), table, ps + 1);
+    copy(old, ps + 1, ts, |r| r, table, ps + more_ps + 1);
     copy(
         filling,
         more_ps + 2,
         more_ts,
-        Change::Term(p, t),
+        |r| move_term(r, p, t),
         table,
         ps + more_ps + ts + 1,
     );
@@ -140,26 +141,12 @@ pub fn edit(old: &[u8], filling: &[u8], hole: Term, table: &mut [u8])
 }
 
 // Tests 3 and 6, one after the other. An edited table passes the others by itself.
-pub fn test_edited(table: &[u8], work: &mut [u8]) -> Verdict
+#[tactic(auto, using(crate::proofs::Edits::in_turn), unfolding(table::specs::Tests::unless, table::specs::Tests::accused))]
+pub fn test_edited(table: &[u8], work: &mut [u8]) -> Result<(), Refusal>
     requires in_bounds { (16 ≤ length table.now) × (test_room ≤ length work.old) }
     requires well_linked { WellLinked table.now }
     ensures { result ≡ edited_tests table.now }
 {
-    if !well_counted(table) {
-        return Verdict::Refused(Refusal::new(3, 0));
-    }
-    from_sizes(table, work)
-}
-
-// Test 6.
-fn from_sizes(table: &[u8], work: &mut [u8]) -> Verdict
-    requires counted { Counted table.now }
-    requires well_linked { WellLinked table.now }
-    requires test_room_in_bounds { test_room ≤ length work.old }
-    ensures { result ≡ edited_from_sizes table.now }
-{
-    match oversized(table, work) {
-        Guilty::At(i) => Verdict::Refused(Refusal::new(6, i)),
-        Guilty::Nobody => Verdict::Passes,
-    }
+    holds(well_counted(table), Reason::WrongCounts)?;
+    guiltless(oversized(table, work), Reason::TooLarge)
 }

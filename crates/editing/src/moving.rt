@@ -2,19 +2,10 @@
 ghost use Rattle.std.specs.Prelude.{◌≡◌, true, cond, ◌+◌, ◌≤◌};
 ghost use Rattle.numbers.specs.Limits.{most_propositions};
 ghost use Rattle.editing.specs.Edited.{moved_prop, moved_term};
-ghost use Rattle.editing.specs.Copied.{changed, PropMoves, TermMoves, Moves};
+ghost use Rattle.editing.specs.Copied.{PropMoves, TermMoves};
 
 use layout::form::{prop_shape, term_shape};
 use numbers::record::Record;
-
-// What becomes of a record that is copied. One of the old table stays as it is; a proposition of the filling comes behind so many
-// propositions, and a term behind so many propositions and terms.
-#[derive(Clone, Copy)]
-pub enum Change {
-    Stays,
-    Proposition(u16),
-    Term(u16, u16),
-}
 
 // A field moves where it is a link.
 fn moved(link: bool, field: u16, by: u16) -> u16
@@ -25,7 +16,7 @@ fn moved(link: bool, field: u16, by: u16) -> u16
 }
 
 // Two children, or a quantifier's body.
-fn move_prop(r: Record, p: u16) -> Record
+pub fn move_prop(r: Record, p: u16) -> Record
     requires { PropMoves p r }
     ensures { result ≡ moved_prop p r }
 {
@@ -33,14 +24,11 @@ fn move_prop(r: Record, p: u16) -> Record
     let x = moved(1 < s.children, r.a, p);
     let y = moved(1 < s.children, r.b, p);
     let z = moved(s.children == 1, r.c, p);
-    let parameters = r.parameters;
     Record {
-        kind: r.kind,
-        count: r.count,
         a: x,
         b: y,
         c: z,
-        parameters,
+        ..r
     }
 }
 
@@ -57,22 +45,8 @@ pub fn move_term(r: Record, p: u16, t: u16) -> Record
     let y = moved(1 < s.children, r.parameters[1], by);
     let z = moved(2 < s.children, r.parameters[2], by);
     Record {
-        kind: r.kind,
-        count: r.count,
         a: typ,
-        b: r.b,
-        c: r.c,
         parameters: [x, y, z, r.parameters[3]],
-    }
-}
-
-pub fn change_record(r: Record, change: Change) -> Record
-    requires { Moves change r }
-    ensures { result ≡ changed change r }
-{
-    match change {
-        Change::Stays => r,
-        Change::Proposition(p) => move_prop(r, p),
-        Change::Term(p, t) => move_term(r, p, t),
+        ..r
     }
 }

@@ -8,7 +8,6 @@ use borrow.Author.Tests.{leb-true, le-leb}
 use lib.ListN.{length, take, drop, length-append}
 use lib.Dec.{leb}
 use lib.Seq.{length-take-le}
-use Rattle.numbers.specs.declared.Sort.{Sort}
 use Rattle.numbers.specs.declared.refusal.Refusal.{Refusal}
 use Rattle.numbers.specs.Records.{Same}
 use Rattle.numbers.specs.Refusals.{refusal_at}
@@ -19,23 +18,18 @@ use Rattle.rules.specs.Tree.{records, holes}
 use Rattle.rules.specs.Step.{Out, stop, refused, ok, Answer}
 use Rattle.table.specs.declared.Purpose.{Purpose}
 use Rattle.table.specs.declared.Purpose.TheVariants.{Check}
-use Rattle.table.specs.declared.Verdict.{Verdict}
-use Rattle.table.specs.declared.Verdict.TheVariants as verdict
 use Rattle.table.specs.Tests.{tests, test_room, unless, Tested}
 use Rattle.table.specs.Passing.{Good}
 use Rattle.prop.proofs.Rooms.{node_kept}
-use Rattle.arena.specs.Copy.{most_records}
 use Rattle.step.specs.declared.state.State.{State}
-use Rattle.step.specs.declared.state.Ran.{Ran as Outcome}
-use Rattle.step.specs.declared.state.Ran.TheVariants as ran
 use Rattle.step.specs.Rooms.{Rooms, rooms, st_of, count_of}
 use Rattle.step.specs.Trees.{SameGoals}
 use Rattle.step.proofs.Frames.{trees_kept}
-use Rattle.entry.specs.declared.Mark.{Mark}
-use Rattle.entry.specs.declared.Mark.TheVariants as mark
-use Rattle.entry.specs.Mark.{tree_bytes, goals_bytes, props_bytes, work_bytes, long_enough, root_run, unless_refused, table_run, outcome, Emptied, Holds, Kept, MarkedAs, Marks}
+use Rattle.std.specs.Prelude.{Ok, Err, Result, ⊤}
+use Rattle.entry.specs.Mark.{tree_bytes, goals_bytes, props_bytes, work_bytes, long_enough, root_run, unless_refused, table_run, outcome, Emptied, Holds, Kept, Mark, MarkedAs, Marks}
 use Rattle.entry.specs.Rest.{Rest}
-use Rattle.entry.specs.Ran.{Exact, Ran, RanAs}
+use Rattle.entry.specs.Ran.{Exact, Ran}
+use Rattle.step.specs.Contract.{Refuses}
 use Rattle.entry.proofs.Answers.{both_true}
 use Rattle.entry.proofs.Rests.{cleared_exact, cleared_parts, cleared_front, same_record, same_goal, front_byte}
 
@@ -53,27 +47,8 @@ module _ {l : List ℕ} {a : Answer} {st : St} (R R' : Rooms) (h : Holds l R a s
       }
 
 -- AFTER THE RUN
-pub count_fits : (l : List ℕ) (o : Out Answer) (R : Rooms) (r : Outcome) (T : Sort) (st : State) → r ≡ ran.Has T st → Exact R → RanAs l o R r → count_of l st ≤ most_records
-count_fits l o R r T st e x h = let k = subst (RanAs l o R) e h in omega (arith, k.holds.made.room, x.props)
-
-pub rest_fits : (l : List ℕ) (o : Out Answer) (R : Rooms) (r : Outcome) (T : Sort) (st : State) (c : ℕ) → r ≡ ran.Has T st → c ≡ count_of l st → Exact R → RanAs l o R r
-    → ((16 * st.records ≤ tree_bytes) × (tree_bytes ≤ length R.tree))
-    × (((8 * st.goals ≤ goals_bytes) × (goals_bytes ≤ length R.goals)) × ((16 * c ≤ props_bytes) × (props_bytes ≤ length R.props)))
-rest_fits l o R r T st c e f x h =
-    let k = subst (RanAs l o R) e h in
-    let t = k.holds.tree_room in
-    let g = k.holds.goals_room in
-    let p = k.holds.made.room in
-    let tl = x.tree in
-    let gl = x.goals in
-    let pl = x.props in
-    let n = k.records in
-    let m = k.goals in
-    ((omega arith, omega arith), ((omega arith, omega arith), (omega arith, omega arith)))
-
-pub finish_refused : (l : List ℕ) (o : Out Answer) (R R' : Rooms) (r : Outcome) (x : Refusal) → r ≡ ran.Refused x → RanAs l o R r → Emptied R R'
-    → MarkedAs l R R' o (mark.Refused x)
-finish_refused l o R R' r x e h z = subst⁻¹ (λ (o : Out Answer). MarkedAs l R R' o (mark.Refused x)) (subst (RanAs l o R) e h) (refl, z)
+pub finish_refused : (l : List ℕ) (o : Out Answer) (R R' : Rooms) (x : Refusal) → Refuses o x → Emptied R R' → MarkedAs l R R' o (Err x)
+finish_refused l o R R' x h z = subst⁻¹ (λ (o : Out Answer). MarkedAs l R R' o (Err x)) h (refl, z)
 
 -- an acceptance: its counts are the tree's, and what is left of the rooms is kept
 pub kept_rest : (l : List ℕ) (o : Out Answer) (R R' : Rooms) (st : State) (r : Ran l o R st) → Rest st.records st.goals (count_of l st) R R' → Kept l R R' r.answer (st_of st)
@@ -92,18 +67,18 @@ kept_rest l o R R' st r z =
     }
 
 abbrev counted : State → Mark
-counted st = mark.Accepted (record { records = st.records; goals = st.goals; serials = st.serials; made = st.made })
+counted st = Ok (record { records = st.records; goals = st.goals; serials = st.serials; made = st.made })
 
 accepted : (l : List ℕ) (o : Out Answer) (R R' : Rooms) (st : State) → Ran l o R st → Rest st.records st.goals (count_of l st) R R' → MarkedAs l R R' o (counted st)
 accepted l o R R' st r z =
     subst⁻¹ (λ (o : Out Answer). MarkedAs l R R' o (counted st)) r.accepts (
-      ap₂ (λ (x y : ℕ). mark.Accepted (record { records = x; goals = y; serials = st.serials; made = st.made })) r.records r.goals,
+      ap₂ (λ (x y : ℕ). Ok (record { records = x; goals = y; serials = st.serials; made = st.made })) r.records r.goals,
       kept_rest l o R R' st r z,
     )
 
-pub finish_accepted : (l : List ℕ) (o : Out Answer) (R R' : Rooms) (r : Outcome) (T : Sort) (st : State) (c : ℕ) → r ≡ ran.Has T st → c ≡ count_of l st → RanAs l o R r
-    → Rest st.records st.goals c R R' → MarkedAs l R R' o (counted st)
-finish_accepted l o R R' r T st c e f h z = accepted l o R R' st (subst (RanAs l o R) e h) (subst (λ (c : ℕ). Rest st.records st.goals c R R') f z)
+pub finish_accepted : (l : List ℕ) (o : Out Answer) (R R' : Rooms) (st : State) (c : ℕ) → c ≡ count_of l st → Ran l o R st → Rest st.records st.goals c R R'
+    → MarkedAs l R R' o (counted st)
+finish_accepted l o R R' st c f r z = accepted l o R R' st r (subst (λ (c : ℕ). Rest st.records st.goals c R R') f z)
 
 -- ROOMS OF JUST THE LISTED SIZES: what they held before the run does not count
 module _ {R R₁ : Rooms} (e : Exact R) (f : Exact R₁) where
@@ -126,28 +101,21 @@ module _ {R R₁ : Rooms} (e : Exact R) (f : Exact R₁) where
         work = k.work ∙ cleared_exact work_bytes R.work R₁.work e.work f.work;
       }
 
-marked_over : (l : List ℕ) (R R₁ R' : Rooms) (m : Mark) → Exact R → Exact R₁ → (o : Out Answer) → MarkedAs l R₁ R' o m → MarkedAs l R R' o m
+pub marked_over : (l : List ℕ) (R R₁ R' : Rooms) (m : Mark) → Exact R → Exact R₁ → (o : Out Answer) → MarkedAs l R₁ R' o m → MarkedAs l R R' o m
 marked_over l R R₁ R' m e f (stop r) h = (h.0, emptied_over e f h.1)
 marked_over l R R₁ R' m e f (ok a st) h = (h.0, kept_over e f h.1)
 
 -- what the tests of a table answer, in a room that is long enough
-pub verdict_is : (p : Purpose) (l work left : List ℕ) (v : Verdict) → length work ≡ work_bytes → Tested p l work left v → v ≡ tests p l
+pub verdict_is : (p : Purpose) (l work left : List ℕ) (v : Result ⊤ Refusal) → length work ≡ work_bytes → Tested p l work left v → v ≡ tests p l
 unfolding unless
 verdict_is p l work left v h t = t.verdict ∙ rw (le-leb test_room (length work) (omega arith))
 
-pub table_refused : (l : List ℕ) (R R₁ R' : Rooms) (v : Verdict) (x : Refusal) → v ≡ verdict.Refused x → Exact R → Exact R₁ → Tested Check l R.work R₁.work v → Emptied R₁ R'
-    → MarkedAs l R R' (table_run l) (mark.Refused x)
+pub tests_refuse : (l work left : List ℕ) (x : Refusal) → length work ≡ work_bytes → Tested Check l work left (Err x) → Refuses (table_run l) x
 unfolding unless_refused
-table_refused l R R₁ R' v x q e f t z =
-    subst (λ (v : Verdict). MarkedAs l R R' (unless_refused v (root_run l)) (mark.Refused x)) (sym q ∙ verdict_is Check l R.work R₁.work v e.work t) (refl, emptied_over e f z)
+tests_refuse l work left x e t = ap (λ (v : Result ⊤ Refusal). unless_refused v (root_run l)) (sym (verdict_is Check l work left (Err x) e t))
 
-pub table_good : (l work left : List ℕ) (v : Verdict) → v ≡ verdict.Passes → length work ≡ work_bytes → Tested Check l work left v → Good Check l
-table_good l work left v q e t = sym (verdict_is Check l work left v e t) ∙ q
-
-pub table_marked : (l : List ℕ) (R R₁ R' : Rooms) (m : Mark) → Exact R → Exact R₁ → Good Check l → MarkedAs l R₁ R' (root_run l) m → MarkedAs l R R' (table_run l) m
-unfolding unless_refused
-table_marked l R R₁ R' m e f v h =
-    subst⁻¹ (λ (v : Verdict). MarkedAs l R R' (unless_refused v (root_run l)) m) v (marked_over l R R₁ R' m e f (root_run l) h)
+pub tests_pass : (l work left : List ℕ) → length work ≡ work_bytes → Tested Check l work left (Ok tt) → Good Check l
+tests_pass l work left e t = sym (verdict_is Check l work left (Ok tt) e t)
 
 -- ROOMS OF ANY LENGTH
 -- the first bytes of each, as many as are listed
@@ -157,10 +125,6 @@ firsts R = rooms (take tree_bytes R.tree) (take goals_bytes R.goals) (take props
 -- these bytes written, the others as before
 abbrev pub followed : Rooms → Rooms → Rooms
 followed S R = rooms (S.tree ++ drop tree_bytes R.tree) (S.goals ++ drop goals_bytes R.goals) (S.props ++ drop props_bytes R.props) (S.work ++ drop work_bytes R.work)
-
-pub long_is : (tree goals ps work : List ℕ) → leb tree_bytes (length tree) && (leb goals_bytes (length goals) && (leb props_bytes (length ps) && leb work_bytes (length work))) ≡ long_enough (rooms tree goals ps work)
-unfolding long_enough
-long_is tree goals ps work = refl
 
 module _ (R : Rooms) (long : long_enough R ≡ true) where
   pub lengths : (tree_bytes ≤ length R.tree) × (goals_bytes ≤ length R.goals) × (props_bytes ≤ length R.props) × (work_bytes ≤ length R.work)
@@ -237,6 +201,6 @@ module _ (l : List ℕ) (m : Mark) (R S : Rooms) (long : long_enough R ≡ true)
   unfolding outcome
   marks_long h = subst⁻¹ (λ (b : Bool). MarkedAs l R (followed S R) (cond b (table_run l) (refused 1 0)) m) long (marked_whole (table_run l) h)
 
-pub marks_short : (l : List ℕ) (R R' : Rooms) (x : Refusal) → long_enough R ≡ false → Emptied R R' → x ≡ refusal_at 1 0 → Marks l R R' (mark.Refused x)
+pub marks_short : (l : List ℕ) (R R' : Rooms) (x : Refusal) → long_enough R ≡ false → Emptied R R' → x ≡ refusal_at 1 0 → Marks l R R' (Err x)
 unfolding outcome
-marks_short l R R' x short z e = subst⁻¹ (λ (b : Bool). MarkedAs l R R' (cond b (table_run l) (refused 1 0)) (mark.Refused x)) short (ap mark.Refused e, z)
+marks_short l R R' x short z e = subst⁻¹ (λ (b : Bool). MarkedAs l R R' (cond b (table_run l) (refused 1 0)) (Err x)) short (ap Err e, z)

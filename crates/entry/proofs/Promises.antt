@@ -24,7 +24,6 @@ use Rattle.rules.specs.Filling.{At, before, after}
 use Rattle.rules.proofs.Goals.{goals_in_order, goals_at}
 use Rattle.rules.proofs.Spent.{holes_goals}
 use Rattle.table.specs.declared.Purpose.TheVariants.{Check}
-use Rattle.table.specs.declared.Verdict.{Verdict}
 use Rattle.table.specs.Passing.{Good}
 use Rattle.table.specs.Reading.{term_at}
 use Rattle.table.proofs.Passing.{table_sound}
@@ -35,10 +34,10 @@ use Rattle.step.specs.Rooms.{Rooms, reads}
 use Rattle.step.specs.Trees.{node_rec, goal_at, NodeIs, GapIs, TreesAre}
 use Rattle.step.proofs.Goals.{goal_place, goal_term}
 use Rattle.entry.specs.declared.Counts.{Counts}
-use Rattle.entry.specs.declared.Mark.{Mark}
-use Rattle.entry.specs.declared.Mark.TheVariants as mark
-use Rattle.entry.specs.Mark.{long_enough, root_run, unless_refused, table_run, outcome, counts_of, Holds, Kept, MarkedAs}
-use Rattle.entry.proofs.Answers.{is_accepted, counts_of_mark, is_ok, table_ok}
+use Rattle.entry.specs.Mark.{long_enough, root_run, unless_refused, table_run, outcome, counts_of, Holds, Kept, Mark, MarkedAs}
+use Rattle.entry.proofs.Answers.{table_ok}
+use Rattle.std.specs.Prelude.{Ok, Result, ⊤}
+use Rattle.numbers.specs.declared.refusal.Refusal.{Refusal}
 use Rattle.entry.specs.Promises.{OnlyThen, AlwaysThen, AcceptedHolds, Sorries, GoalsAreSorries, Agree, AgreeNode, AgreeGoal, SameTree, SameIf, TwoRunsAgree}
 
 -- WHAT AN ACCEPTANCE SAYS
@@ -48,7 +47,7 @@ outcome_ok l R a st h = at (long_enough R) refl h
   where
     at : (b : Bool) → long_enough R ≡ b → cond b (table_run l) (refused 1 0) ≡ ok a st → (long_enough R ≡ true) × Good Check l × (root_run l ≡ ok a st)
     at true e h = let z = table_ok l a st h in (e, z.0, z.1)
-    at false e h = absurd (false≢true (ap is_ok h))
+    at false e h = cc
 
 record Taken (l : List ℕ) (R R' : Rooms) (c : Counts) : Type 0 where
   answer : Answer
@@ -57,9 +56,9 @@ record Taken (l : List ℕ) (R R' : Rooms) (c : Counts) : Type 0 where
   counts : c ≡ counts_of answer state
   kept : Kept l R R' answer state
 
-taken : (l : List ℕ) (R R' : Rooms) (c : Counts) (o : Out Answer) → outcome l R ≡ o → MarkedAs l R R' o (mark.Accepted c) → Taken l R R' c
-taken l R R' c (stop r) e h = absurd (true≢false (ap is_accepted h.0))
-taken l R R' c (ok a st) e h = record { answer = a; state = st; is = e; counts = ap (counts_of_mark c) h.0; kept = h.1 }
+taken : (l : List ℕ) (R R' : Rooms) (c : Counts) (o : Out Answer) → outcome l R ≡ o → MarkedAs l R R' o (Ok c) → Taken l R R' c
+taken l R R' c (stop r) e h = cc
+taken l R R' c (ok a st) e h = record { answer = a; state = st; is = e; counts = cc; kept = h.1 }
 
 pub only_then : OnlyThen
 only_then l R R' c h =
@@ -71,8 +70,8 @@ pub always_then : AlwaysThen
 unfolding outcome unless_refused
 always_then l R R' m h c a =
     let is : outcome l R ≡ ok a.answer a.state =
-    ap (λ (b : Bool). cond b (table_run l) (refused 1 0)) a.long ∙ ap (λ (v : Verdict). unless_refused v (root_run l)) a.good ∙ a.accepts in
-    (subst (λ (o : Out Answer). MarkedAs l R R' o m) is h).0 ∙ ap mark.Accepted (sym a.counts)
+    ap (λ (b : Bool). cond b (table_run l) (refused 1 0)) a.long ∙ ap (λ (v : Result ⊤ Refusal). unless_refused v (root_run l)) a.good ∙ a.accepts in
+    (subst (λ (o : Out Answer). MarkedAs l R R' o m) is h).0 ∙ ap Ok (sym a.counts)
 
 -- SOUNDNESS
 none_left : {X : Type 0} (xs : List X) → length xs ≡ 0 → xs ≡ []

@@ -1,5 +1,5 @@
 -- The root of a table that passes its tests is run as the rules run it. Assumes nothing.
-use mathlib.Core.Path.{◌≡◌, ap, ap₂, sym, subst, ◌∙◌}
+use mathlib.Core.Path.{◌≡◌, ap, ap₂, sym, subst, subst⁻¹, ◌∙◌}
 use mathlib.Core.List.{List}
 use Prim.Native.Nat.{ℕ, ◌<◌, ◌≤◌}
 use native.Mathlib.Omega.{arith}
@@ -24,13 +24,14 @@ use Rattle.context.proofs.Laws.{ctx_none}
 use Rattle.arena.specs.Copy.{most_records}
 use Rattle.arena.specs.Load as load
 use Rattle.step.specs.declared.state.State.{State}
-use Rattle.step.specs.declared.state.Ran.{Ran as Outcome}
-use Rattle.step.specs.declared.state.Ran.TheVariants as outcome
+use Rattle.step.specs.declared.state.Answer.{Answer as Answered}
+use Rattle.std.specs.Prelude.{⊤, Result, Ok, Err}
+use Rattle.numbers.specs.declared.refusal.Refusal.{Refusal}
 use Rattle.step.specs.declared.state.Want.TheVariants as want
 use Rattle.step.specs.Rooms.{Rooms, reads, st_of, count_of, Loaded}
 use Rattle.step.specs.Contract.{Ready, Accepts, RanAs as Meets, run_of}
 use Rattle.step.proofs.Starts.{beginning, ready_root}
-use Rattle.entry.specs.Mark.{start_of, root_run}
+use Rattle.entry.specs.Mark.{start_of, root_run, unless_refused, table_run}
 use Rattle.entry.specs.Ran.{Exact, Ran, RanAs}
 
 module _ (l : List ℕ) (good : Good Check l) where
@@ -90,9 +91,13 @@ module _ (l : List ℕ) (good : Good Check l) where
           goals = omega (arith, left.goals);
         }
 
-    as_ran : (R' : Rooms) (r : Outcome) → Meets l R R' 0 (want.Check (sort.Proposition (record { 0 = expected l }))) (beginning none) r → RanAs l (root_run l) R' r
-    as_ran R' (outcome.Has T st) h = fits R' st (subst (λ (o : Out Answer). Accepts l R R' (beginning none) st o) root_is h.accepted)
-    as_ran R' (outcome.Refused r) h = sym root_is ∙ h
+    as_ran : (R' : Rooms) (r : Result Answered Refusal) → Meets l R R' 0 (want.Check (sort.Proposition (record { 0 = expected l }))) (beginning none) r → RanAs l (root_run l) R' r
+    as_ran R' (Ok a) h = fits R' a.state (subst (λ (o : Out Answer). Accepts l R R' (beginning none) a.state o) root_is h.accepted)
+    as_ran R' (Err r) h = sym root_is ∙ h
 
-    pub ran : (R' : Rooms) (r : Outcome) (n : ℕ) → n ≡ expected l → Meets l R R' 0 (want.Check (sort.Proposition (record { 0 = n }))) (beginning none) r → RanAs l (root_run l) R' r
-    ran R' r n e h = as_ran R' r (subst (λ (n : ℕ). Meets l R R' 0 (want.Check (sort.Proposition (record { 0 = n }))) (beginning none) r) e h)
+    -- and what is said of the table, which passed its tests
+    pub ran : (R' : Rooms) (r : Result Answered Refusal) (n : ℕ) → n ≡ expected l → Meets l R R' 0 (want.Check (sort.Proposition (record { 0 = n }))) (beginning none) r → RanAs l (table_run l) R' r
+    unfolding unless_refused
+    ran R' r n e h =
+        subst⁻¹ (λ (v : Result ⊤ Refusal). RanAs l (unless_refused v (root_run l)) R' r) good
+        (as_ran R' r (subst (λ (n : ℕ). Meets l R R' 0 (want.Check (sort.Proposition (record { 0 = n }))) (beginning none) r) e h))

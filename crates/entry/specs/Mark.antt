@@ -1,5 +1,6 @@
 -- The mark of any bytes in any rooms, by cases on what document 01 says of them. Assumes nothing.
-use Rattle.std.specs.Prelude.{◌≡◌, Bool, ◌&&◌, cond, List, [], ℕ, ◌+◌, ◌*◌, ◌<◌, ◌≤◌, length, leb}
+use Rattle.std.specs.Prelude.{◌≡◌, Bool, ◌&&◌, cond, List, [], ℕ, ◌+◌, ◌*◌, ◌<◌, ◌≤◌, length, leb, Result, Ok, Err, ⊤}
+use Rattle.numbers.specs.declared.refusal.Refusal.{Refusal}
 use Rattle.numbers.specs.Records.{record_at}
 use Rattle.numbers.specs.Rooms.{cleared}
 use Rattle.layout.specs.File.{props, expected}
@@ -10,8 +11,6 @@ use Rattle.rules.specs.Tree.{records, holes}
 use Rattle.rules.specs.Step.{check, Out, stop, refused, ok, Answer}
 use Rattle.rules.specs.Rules.{run}
 use Rattle.table.specs.declared.Purpose.TheVariants.{Check}
-use Rattle.table.specs.declared.Verdict.{Verdict}
-use Rattle.table.specs.declared.Verdict.TheVariants as verdict
 use Rattle.table.specs.Tests.{tests}
 use Rattle.table.specs.Reading.{prop_at, term_at}
 use Rattle.prop.specs.Room.{Arena}
@@ -21,8 +20,6 @@ use Rattle.step.specs.Rooms.{Rooms, most_nodes, most_goals}
 use Rattle.step.specs.Contract.{refusal_of, told}
 use Rattle.step.specs.Trees.{TreesAre}
 use Rattle.entry.specs.declared.Counts.{Counts}
-use Rattle.entry.specs.declared.Mark.{Mark}
-use Rattle.entry.specs.declared.Mark.TheVariants as mark
 
 -- THE LENT ROOMS ("Refusal numbers"): so many bytes of each are written, and none behind them
 abbrev pub tree_bytes : ℕ
@@ -53,9 +50,9 @@ abbrev pub root_run : List ℕ → Out Answer
 root_run l = run (term_at l 0) (check (prop (prop_at l (expected l)))) (context_of l) (start_of l)
 
 -- WHAT DOCUMENT 01 SAYS of these bytes: the rooms first, then the table's tests, then the rules
-unfoldable pub unless_refused : Verdict → Out Answer → Out Answer
-unless_refused (verdict.Refused r) o = stop (refusal_of r)
-unless_refused verdict.Passes o = o
+unfoldable pub unless_refused : Result ⊤ Refusal → Out Answer → Out Answer
+unless_refused (Err r) o = stop (refusal_of r)
+unless_refused (Ok u) o = o
 
 abbrev pub table_run : List ℕ → Out Answer
 table_run l = unless_refused (tests Check l) (root_run l)
@@ -89,10 +86,13 @@ pub record Kept (l : List ℕ) (R R' : Rooms) (a : Answer) (st : St) : Type 0 wh
 abbrev pub counts_of : Answer → St → Counts
 counts_of a st = record { records = records a.tree; goals = holes a.tree; serials = st.serials; made = st.made }
 
--- THE MARK
+-- THE MARK: what was made, or why there is none
+abbrev pub Mark : Type 0
+Mark = Result Counts Refusal
+
 abbrev pub MarkedAs : (l : List ℕ) → (R R' : Rooms) → Out Answer → Mark → Type 0
-MarkedAs l R R' (stop s) m = (m ≡ mark.Refused (told s)) × Emptied R R'
-MarkedAs l R R' (ok a st) m = (m ≡ mark.Accepted (counts_of a st)) × Kept l R R' a st
+MarkedAs l R R' (stop s) m = (m ≡ Err (told s)) × Emptied R R'
+MarkedAs l R R' (ok a st) m = (m ≡ Ok (counts_of a st)) × Kept l R R' a st
 
 abbrev pub Marks : (l : List ℕ) → (R R' : Rooms) → Mark → Type 0
 Marks l R R' m = MarkedAs l R R' (outcome l R) m

@@ -1,5 +1,5 @@
 -- What a tester asks of a mark, as statements about `Marks` alone; proved in proofs/Promises.antt. Assumes nothing.
-use Rattle.std.specs.Prelude.{◌≡◌, true, List, [], ◌⊎◌, ℕ, zero, suc, ◌<◌, ◌≤◌, length, get_or}
+use Rattle.std.specs.Prelude.{◌≡◌, true, List, [], ◌⊎◌, ℕ, zero, suc, ◌<◌, ◌≤◌, length, get_or, Ok, Err}
 use Rattle.numbers.specs.declared.record.Record.{Record}
 use Rattle.numbers.specs.Records.{record_at}
 use Rattle.layout.specs.File.{props, expected}
@@ -15,9 +15,7 @@ use Rattle.step.specs.declared.node.Goal.{Goal}
 use Rattle.step.specs.Rooms.{Rooms}
 use Rattle.step.specs.Trees.{goal_at}
 use Rattle.entry.specs.declared.Counts.{Counts}
-use Rattle.entry.specs.declared.Mark.{Mark}
-use Rattle.entry.specs.declared.Mark.TheVariants as mark
-use Rattle.entry.specs.Mark.{long_enough, root_run, counts_of, Marks}
+use Rattle.entry.specs.Mark.{long_enough, root_run, counts_of, Mark, Marks}
 
 -- ACCEPTED EXACTLY WHEN THE RULES ACCEPT: the rooms are long enough, the table passes its tests, and the rules check its root
 pub record Accepted (l : List ℕ) (R : Rooms) (c : Counts) : Type 0 where
@@ -29,15 +27,15 @@ pub record Accepted (l : List ℕ) (R : Rooms) (c : Counts) : Type 0 where
   pub counts : c ≡ counts_of answer state
 
 abbrev pub OnlyThen : Type 0
-OnlyThen = (l : List ℕ) (R R' : Rooms) (c : Counts) → Marks l R R' (mark.Accepted c) → Accepted l R c
+OnlyThen = (l : List ℕ) (R R' : Rooms) (c : Counts) → Marks l R R' (Ok c) → Accepted l R c
 
 abbrev pub AlwaysThen : Type 0
-AlwaysThen = (l : List ℕ) (R R' : Rooms) (m : Mark) → Marks l R R' m → (c : Counts) → Accepted l R c → m ≡ mark.Accepted c
+AlwaysThen = (l : List ℕ) (R R' : Rooms) (m : Mark) → Marks l R R' m → (c : Counts) → Accepted l R c → m ≡ Ok c
 
 -- ACCEPTED WITH NO GOALS, the proposition that the file expects holds in every structure
 abbrev pub AcceptedHolds : Type 1
 AcceptedHolds =
-    (l : List ℕ) (R R' : Rooms) (c : Counts) → Marks l R R' (mark.Accepted c) → c.goals ≡ 0
+    (l : List ℕ) (R R' : Rooms) (c : Counts) → Marks l R R' (Ok c) → c.goals ≡ 0
     → (M : Structure) (ρ : Env M) → Holds M ρ [] (prop_at l (expected l))
 
 -- EACH SORRY of the term t IS ONE GOAL, from left to right
@@ -46,7 +44,7 @@ pub record Sorries (t : Term) (R' : Rooms) (c : Counts) : Type 0 where
   pub each : (i : ℕ) → i < c.goals → (goal_at R'.goals i).term.0 ≡ get_or (sorries t) i 0
 
 abbrev pub GoalsAreSorries : Type 0
-GoalsAreSorries = (l : List ℕ) (R R' : Rooms) (c : Counts) → Marks l R R' (mark.Accepted c) → Sorries (term_at l 0) R' c
+GoalsAreSorries = (l : List ℕ) (R R' : Rooms) (c : Counts) → Marks l R R' (Ok c) → Sorries (term_at l 0) R' c
 
 -- TWO RUNS ON THE SAME BYTES AGREE, whatever the rooms held. Under tag 0 two numbers stand for propositions: they read alike, each in its own room ps
 -- or qs, and are equal unless both are of made ones. Under another tag they are datatypes, and are equal
@@ -76,8 +74,8 @@ pub record SameTree (l : List ℕ) (R' S' : Rooms) (c : Counts) : Type 0 where
   pub table : (n : ℕ) → n < props l → record_at R'.props n ≡ record_at S'.props n
 
 abbrev pub SameIf : (l : List ℕ) → (R' S' : Rooms) → Mark → Type 0
-SameIf l R' S' (mark.Accepted c) = SameTree l R' S' c
-SameIf l R' S' (mark.Refused r) = Unit {0}
+SameIf l R' S' (Ok c) = SameTree l R' S' c
+SameIf l R' S' (Err r) = Unit {0}
 
 abbrev pub TwoRunsAgree : Type 0
 TwoRunsAgree =

@@ -2,25 +2,23 @@
 // proposition, and the rooms are left clean.
 #![tactic(auto)]
 
-ghost use Rattle.std.specs.Prelude.{◌≡◌, ◌+◌, ◌≤◌, length};
-ghost use Rattle.table.specs.declared.Purpose.TheVariants.{Check};
-ghost use Rattle.table.specs.Passing.{Good};
+ghost use Rattle.std.specs.Prelude.{◌≡◌, Err};
 ghost use Rattle.step.specs.Rooms.{rooms};
-ghost use Rattle.entry.specs.Mark.{root_run, table_run, MarkedAs, Marks};
-ghost use Rattle.entry.specs.Ran.{Exact, RanAs};
+ghost use Rattle.entry.specs.Mark.{table_run, Emptied, MarkedAs, Marks};
+ghost use Rattle.entry.specs.Ran.{Exact, RanAs, counted_in};
 
 use arena::load::load;
 use layout::header::expected_field;
-use numbers::refusal::Refusal;
+use numbers::refusal::{Reason, Refusal};
 use numbers::{Sort, Term};
 use rooms::{GOALS, PROPOSITIONS, TREE, WORK, clear_rest, clear_rooms, long_enough};
-use step::state::{Ran, State, count_of};
-use table::{Purpose, Verdict, test_table};
+use step::state::{Answer, State};
+use table::{Purpose, test_table};
 
 pub mod rooms;
 
-// How many tree records, goals, serials and propositions a run made.
-#[derive(Clone, Copy)]
+// How many tree records, goals, serials and propositions a run made: what an accepted table's mark says.
+#[derive(Clone, Copy, Debug, PartialEq, Eq)]
 pub struct Counts {
     pub records: u16,
     pub goals: u16,
@@ -28,20 +26,32 @@ pub struct Counts {
     pub made: u16,
 }
 
-// What a check answers.
-#[derive(Clone, Copy)]
-pub enum Mark {
-    Accepted(Counts),
-    Refused(Refusal),
+impl From<State> for Counts {
+    ghost from_gives = { λ st c. c ≡ counted_in st };
+
+    fn from(st: State) -> Self {
+        Counts {
+            records: st.records,
+            goals: st.goals,
+            serials: st.serials,
+            made: st.made,
+        }
+    }
 }
 
-// The run of a table that passes its tests: its root, held to what it expects, with nothing made yet and an empty context.
-fn run(file: &[u8], tree: &mut [u8], goals: &mut [u8], props: &mut [u8], work: &mut [u8]) -> Ran
-    requires good { Good Check file.now }
-    requires exact { Exact (rooms tree.old goals.old props.old work.old) }
-    ensures { RanAs file.now (root_run file.now)
+// The run of a table: its tests, and where it passes them its root, held to what it expects, with nothing made yet and an empty context.
+fn run(
+    file: &[u8],
+    tree: &mut [u8],
+    goals: &mut [u8],
+    props: &mut [u8],
+    work: &mut [u8],
+) -> Result<Answer, Refusal>
+    requires { Exact (rooms tree.old goals.old props.old work.old) }
+    ensures { RanAs file.now (table_run file.now)
         (rooms tree.new goals.new props.new work.new) result }
 {
+    test_table(file, work, Purpose::Check)?;
     load(file, work, props);
     checker::check(
         file,
@@ -51,68 +61,47 @@ fn run(file: &[u8], tree: &mut [u8], goals: &mut [u8], props: &mut [u8], work: &
         work,
         Term(0),
         Sort::Proposition(expected_field(file)),
-        State {
-            records: 0,
-            goals: 0,
-            serials: 0,
-            made: 0,
-            context: 0,
-            asked: State::NO_PICTURE,
-        },
+        State::START,
     )
 }
 
-// The mark, and the rooms cleaned after the run.
-fn finish(
-    file: &[u8],
+// A refusal, with all rooms emptied.
+fn refuse(
     tree: &mut [u8],
     goals: &mut [u8],
     props: &mut [u8],
     work: &mut [u8],
-    answer: Ran,
-) -> Mark
-    requires in_bounds { 16 ≤ length file.now }
-    requires exact { Exact (rooms tree.old goals.old props.old work.old) }
-    requires ran_as { RanAs file.now (root_run file.now) (rooms tree.old goals.old props.old work.old) answer }
-    ensures { MarkedAs file.now (rooms tree.old goals.old props.old work.old)
-        (rooms tree.new goals.new props.new work.new) (root_run file.now) result }
+    refusal: Refusal,
+) -> Result<Counts, Refusal>
+    ensures emptied { Emptied (rooms tree.old goals.old props.old work.old)
+        (rooms tree.new goals.new props.new work.new) }
+    ensures answer { result ≡ Err refusal }
 {
-    match answer {
-        Ran::Refused(e) => {
-            clear_rooms(tree, goals, props, work);
-            Mark::Refused(e)
-        }
-        Ran::Has(_, st) => {
-            let count = count_of(file, st);
-            clear_rest(tree, goals, props, work, st.records, st.goals, count);
-            Mark::Accepted(Counts {
-                records: st.records,
-                goals: st.goals,
-                serials: st.serials,
-                made: st.made,
-            })
-        }
-    }
+    clear_rooms(tree, goals, props, work);
+    Err(refusal)
 }
 
-// The mark of any bytes, in rooms of just the listed sizes.
+// The mark of any bytes, in rooms of just the listed sizes, which are cleaned after the run.
 pub fn check_table(
     file: &[u8],
     tree: &mut [u8],
     goals: &mut [u8],
     props: &mut [u8],
     work: &mut [u8],
-) -> Mark
+) -> Result<Counts, Refusal>
     requires { Exact (rooms tree.old goals.old props.old work.old) }
     ensures { MarkedAs file.now (rooms tree.old goals.old props.old work.old)
         (rooms tree.new goals.new props.new work.new) (table_run file.now) result }
 {
-    if let Verdict::Refused(r) = test_table(file, work, Purpose::Check) {
-        clear_rooms(tree, goals, props, work);
-        return Mark::Refused(r);
+    match run(file, tree, goals, props, work) {
+        Ok(answer) => {
+            let st = answer.state;
+            let count = st.count(file);
+            clear_rest(tree, goals, props, work, st.records, st.goals, count);
+            Ok(Counts::from(st))
+        }
+        Err(e) => refuse(tree, goals, props, work, e),
     }
-    let answer = run(file, tree, goals, props, work);
-    finish(file, tree, goals, props, work, answer)
 }
 
 // The mark of any bytes in any rooms.
@@ -122,7 +111,7 @@ pub fn check(
     goals: &mut [u8],
     props: &mut [u8],
     work: &mut [u8],
-) -> Mark
+) -> Result<Counts, Refusal>
     ensures { Marks file.now (rooms tree.old goals.old props.old work.old)
         (rooms tree.new goals.new props.new work.new) result }
 {
@@ -135,7 +124,6 @@ pub fn check(
             &mut work[..WORK],
         )
     } else {
-        clear_rooms(tree, goals, props, work);
-        Mark::Refused(Refusal::new(1, 0))
+        refuse(tree, goals, props, work, Reason::RoomTooShort.of(0))
     }
 }

@@ -17,11 +17,11 @@ pub const PROPOSITIONS: usize = 16 * (Proposition::LIMIT as usize + Proposition:
 
 pub const WORK: usize = 65536;
 
+#[tactic(auto, unfolding(crate::specs::Mark::long_enough, rules::specs::State::limit))]
 pub fn long_enough(tree: &[u8], goals: &[u8], props: &[u8], work: &[u8]) -> bool
     ensures { result ≡ long_enough (rooms tree.now goals.now props.now work.now) }
 {
-    (TREE <= tree.len())
-        & ((GOALS <= goals.len()) & ((PROPOSITIONS <= props.len()) & (WORK <= work.len())))
+    TREE <= tree.len() && GOALS <= goals.len() && PROPOSITIONS <= props.len() && WORK <= work.len()
 }
 
 // Every room becomes zeros, as far as it goes and no further than its listed size.
@@ -44,6 +44,7 @@ pub fn trim(room: &mut [u8], used: usize, size: usize)
 }
 
 // What an acceptance leaves unused becomes zeros, and so does the work room.
+#[tactic(auto, unfolding(rules::specs::State::limit))]
 pub fn clear_rest(
     tree: &mut [u8],
     goals: &mut [u8],

@@ -1,22 +1,16 @@
 -- What a caller in C gets: an answer, written as one record of the answer room. Assumes nothing.
-use Rattle.std.specs.Prelude.{◌≡◌, Bool, true, false, List, [], ◌∷◌, ℕ, length, leb}
+use Rattle.std.specs.Prelude.{◌≡◌, Bool, true, false, List, [], ◌∷◌, ℕ, length, leb, ⊤, Result, Ok, Err}
 use Rattle.numbers.specs.declared.record.Record.{Record}
 use Rattle.numbers.specs.declared.refusal.Refusal.{Refusal}
 use Rattle.numbers.specs.Records.{Put}
 use Rattle.table.specs.declared.Purpose.{Purpose}
-use Rattle.table.specs.declared.Verdict.{Verdict}
-use Rattle.table.specs.declared.Verdict.TheVariants as verdict
 use Rattle.table.specs.Tests.{Tested}
 use Rattle.step.specs.Rooms.{Rooms}
 use Rattle.entry.specs.declared.Counts.{Counts}
-use Rattle.entry.specs.declared.Mark.{Mark}
-use Rattle.entry.specs.declared.Mark.TheVariants as mark
-use Rattle.entry.specs.Mark.{Marks}
+use Rattle.entry.specs.Mark.{Mark, Marks}
 use Rattle.filling.specs.declared.answer.Which.{Which}
 use Rattle.filling.specs.declared.answer.Which.TheVariants.{Old, Filling, Edit}
-use Rattle.filling.specs.declared.answer.Filled.{Filled}
-use Rattle.filling.specs.declared.answer.Filled.TheVariants as filled
-use Rattle.filling.specs.Fill.{Lent, Fills}
+use Rattle.filling.specs.Fill.{Lent, Filled, Fills}
 
 -- THE ANSWER ROOM: one record is written, and nothing behind it
 abbrev pub answer_bytes : ℕ
@@ -45,17 +39,20 @@ table_number Old = 0
 table_number Filling = 1
 table_number Edit = 2
 
+abbrev pub Verdict : Type 0
+Verdict = Result ⊤ Refusal
+
 unfoldable pub verdict_record : Verdict → Record
-verdict_record verdict.Passes = accepted_record no_counts
-verdict_record (verdict.Refused r) = refused_record r 0
+verdict_record (Ok u) = accepted_record no_counts
+verdict_record (Err r) = refused_record r 0
 
 unfoldable pub mark_record : Mark → Record
-mark_record (mark.Accepted n) = accepted_record n
-mark_record (mark.Refused r) = refused_record r 0
+mark_record (Ok n) = accepted_record n
+mark_record (Err r) = refused_record r 0
 
 unfoldable pub filled_record : Filled → Record
-filled_record (filled.Accepted n) = accepted_record n
-filled_record (filled.Refused r w) = refused_record r (table_number w)
+filled_record (Ok n) = accepted_record n
+filled_record (Err e) = refused_record e.refusal (table_number e.which)
 
 -- A RIGHT ANSWER stands as a record in the answer room, which is a before and a' after
 pub record Written (A : Type 0) (Right : A → Type 0) (form : A → Record) (a a' : List ℕ) : Type 0 where

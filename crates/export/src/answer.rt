@@ -2,12 +2,12 @@
 ghost use Rattle.std.specs.Prelude.{◌≡◌};
 ghost use Rattle.export.specs.Answer.{accepted_record, refused_record, table_number, verdict_record, mark_record, filled_record};
 
-use entry::{Counts, Mark};
-use filling::answer::{Filled, Which};
+use entry::Counts;
+use filling::answer::{Rejection, Which};
 use numbers::record::Record;
 use numbers::refusal::Refusal;
-use table::Verdict;
 
+#[tactic(auto, unfolding(crate::specs::Answer::accepted_record))]
 fn accepted(n: Counts) -> Record
     ensures { result ≡ accepted_record n }
 {
@@ -21,6 +21,7 @@ fn accepted(n: Counts) -> Record
     }
 }
 
+#[tactic(auto, unfolding(crate::specs::Answer::refused_record))]
 fn refused(e: Refusal, table: u16) -> Record
     ensures { result ≡ refused_record e table }
 {
@@ -34,46 +35,44 @@ fn refused(e: Refusal, table: u16) -> Record
     }
 }
 
+#[tactic(auto, unfolding(crate::specs::Answer::table_number))]
 fn table_number(which: Which) -> u16
     ensures { result ≡ table_number which }
 {
-    match which {
-        Which::Old => 0,
-        Which::Filling => 1,
-        Which::Edit => 2,
+    which as u16
+}
+
+// What filling a goal answers.
+#[tactic(auto, unfolding(crate::specs::Answer::filled_record))]
+pub fn of_filled(filled: Result<Counts, Rejection>) -> Record
+    ensures { result ≡ filled_record filled }
+{
+    match filled {
+        Ok(counts) => accepted(counts),
+        Err(e) => refused(e.refusal, table_number(e.which)),
     }
 }
 
-pub fn of_verdict(v: Verdict) -> Record
-    ensures { result ≡ verdict_record v }
+// A mark: there is one table, and it has the old one's number.
+#[tactic(auto, unfolding(crate::specs::Answer::mark_record, crate::specs::Answer::filled_record, crate::specs::Answer::table_number))]
+pub fn of_mark(mark: Result<Counts, Refusal>) -> Record
+    ensures { result ≡ mark_record mark }
 {
-    match v {
-        Verdict::Passes => {
-            accepted(Counts {
-                records: 0,
-                goals: 0,
-                serials: 0,
-                made: 0,
-            })
-        }
-        Verdict::Refused(e) => refused(e, 0),
-    }
+    of_filled(mark.map_err(|refusal| Rejection {
+        refusal,
+        which: Which::Old,
+    }))
 }
 
-pub fn of_mark(m: Mark) -> Record
-    ensures { result ≡ mark_record m }
+// What the tests answer: a mark with no counts.
+#[tactic(auto, unfolding(crate::specs::Answer::verdict_record, crate::specs::Answer::mark_record))]
+pub fn of_verdict(verdict: Result<(), Refusal>) -> Record
+    ensures { result ≡ verdict_record verdict }
 {
-    match m {
-        Mark::Accepted(n) => accepted(n),
-        Mark::Refused(e) => refused(e, 0),
-    }
-}
-
-pub fn of_filled(f: Filled) -> Record
-    ensures { result ≡ filled_record f }
-{
-    match f {
-        Filled::Accepted(n) => accepted(n),
-        Filled::Refused(e, which) => refused(e, table_number(which)),
-    }
+    of_mark(verdict.map(|()| Counts {
+        records: 0,
+        goals: 0,
+        serials: 0,
+        made: 0,
+    }))
 }

@@ -21,17 +21,24 @@ pub const ANSWERED: u32 = 0;
 // and where there is no room for it, so that nothing was done.
 pub const NO_ROOM: u32 = 1;
 
+// The tests of a table that is for that purpose.
+fn test(file: &[u8], work: &mut [u8], answer: &mut [u8], purpose: Purpose) -> u32
+    ensures { TestReturns purpose file.now work.old work.new answer.old answer.new result }
+{
+    if answer.len() < ANSWER {
+        return NO_ROOM;
+    }
+    let verdict = test_table(file, work, purpose);
+    put(answer, 0, of_verdict(verdict));
+    ANSWERED
+}
+
 // Tests 2 to 7 of a table to check.
 #[unsafe(no_mangle)]
 pub extern "C" fn sporekettle_test_table(file: &[u8], work: &mut [u8], answer: &mut [u8]) -> u32
     ensures { TestReturns Check file.now work.old work.new answer.old answer.new result }
 {
-    if answer.len() < ANSWER {
-        return NO_ROOM;
-    }
-    let verdict = test_table(file, work, Purpose::Check);
-    put(answer, 0, of_verdict(verdict));
-    ANSWERED
+    test(file, work, answer, Purpose::Check)
 }
 
 // Tests 2 to 6 of a filling.
@@ -39,12 +46,7 @@ pub extern "C" fn sporekettle_test_table(file: &[u8], work: &mut [u8], answer: &
 pub extern "C" fn sporekettle_test_filling(file: &[u8], work: &mut [u8], answer: &mut [u8]) -> u32
     ensures { TestReturns Filling file.now work.old work.new answer.old answer.new result }
 {
-    if answer.len() < ANSWER {
-        return NO_ROOM;
-    }
-    let verdict = test_table(file, work, Purpose::Filling);
-    put(answer, 0, of_verdict(verdict));
-    ANSWERED
+    test(file, work, answer, Purpose::Filling)
 }
 
 // The mark of a table.

@@ -7,22 +7,13 @@ ghost use Rattle.std.specs.Prelude.{◌≤◌, length};
 
 use editing::EDITED;
 use entry::rooms::{GOALS, PROPOSITIONS, TREE, WORK};
-use filling::answer::{Filled, Which};
 use filling::fill;
 use layout::header::{proposition_count, term_count};
-use show::arguments::{Numeral, argument_count, number_argument, write_argument};
+use show::arguments::{argument_count, number_argument, write_argument};
 use show::input::{LONGEST, read_argument};
+use show::tree::Accepted;
 use std::io;
 use std::io::Write;
-
-// The end of a refusal's line.
-fn in_table<W: Write>(out: &mut W, which: Which) -> io::Result<()> {
-    match which {
-        Which::Old => show::text(out, b" old\n"),
-        Which::Filling => show::text(out, b" filling\n"),
-        Which::Edit => show::text(out, b" edited\n"),
-    }
-}
 
 // The filling's answer, in rooms of the listed sizes; and whether it is accepted.
 fn answer<W: Write>(
@@ -39,14 +30,23 @@ fn answer<W: Write>(
     match fill(
         old, goal, filling, &mut tree, &mut goals, &mut props, &mut work, edited,
     ) {
-        Filled::Refused(e, which) => {
-            show::refusal(out, e)?;
-            in_table(out, which)?;
-            Ok(false)
-        }
-        Filled::Accepted(c) => {
-            show::tree::short(out, &tree, &goals, &props, c.records, c.goals)?;
+        Ok(c) => {
+            let accepted = Accepted {
+                tree: &tree,
+                goals: &goals,
+                props: &props,
+                records: c.records,
+                open: c.goals,
+                serials: c.serials,
+                made: c.made,
+            };
+            write!(out, "{accepted}")?;
             Ok(true)
+        }
+        Err(e) => {
+            show::refusal(out, e.refusal)?;
+            writeln!(out, " {}", e.which)?;
+            Ok(false)
         }
     }
 }
@@ -56,34 +56,31 @@ fn length_of(edited: &[u8]) -> usize
     requires { 16 ≤ length edited.now }
     ensures { result ≤ length edited.now }
 {
-    let p = proposition_count(edited) as usize;
-    let t = term_count(edited) as usize;
-    let n = 16 * (p + t) + 16;
-    if n < edited.len() { n } else { edited.len() }
+    let p = usize::from(proposition_count(edited));
+    let t = usize::from(term_count(edited));
+    (16 * (p + t) + 16).min(edited.len())
 }
 
 // The edited table goes into the file that argument 4 names, without the zeros behind it in its room.
-fn write_edited(rt: &HostRuntime, edited: &[u8]) {
-    if 16 <= edited.len() {
-        let n = length_of(edited);
-        write_argument(rt, 4, &edited[..n]);
-    }
+fn write_edited(rt: &HostRuntime, edited: &[u8; EDITED]) {
+    let n = length_of(edited);
+    write_argument(rt, 4, &edited[..n]);
 }
 
 fn fill_files(rt: &HostRuntime, goal: u16, kept: bool) -> io::Result<()> {
     let mut old = [0u8; LONGEST];
-    let Some(n) = read_argument(rt, 1, &mut old) else {
+    let Some(old) = read_argument(rt, 1, &mut old) else {
         return Ok(());
     };
     let mut filling = [0u8; LONGEST];
-    let Some(m) = read_argument(rt, 3, &mut filling) else {
+    let Some(filling) = read_argument(rt, 3, &mut filling) else {
         return Ok(());
     };
     let mut edited = [0u8; EDITED];
     let mut out = show::output(rt);
-    let accepted = answer(&mut out, &old[..n], goal, &filling[..m], &mut edited)?;
+    let accepted = answer(&mut out, old, goal, filling, &mut edited)?;
     out.flush()?;
-    if accepted & kept {
+    if accepted && kept {
         write_edited(rt, &edited);
     }
     Ok(())
@@ -91,11 +88,11 @@ fn fill_files(rt: &HostRuntime, goal: u16, kept: bool) -> io::Result<()> {
 
 fn main(rt: HostRuntime) -> io::Result<()> {
     let count = argument_count(&rt);
-    if (count != 4) & (count != 5) {
+    if count != 4 && count != 5 {
         return eprintln!(rt; "usage: fill OLD GOAL FILLING [EDITED]");
     }
     match number_argument(&rt, 2) {
-        Numeral::Number(goal) => fill_files(&rt, goal, count == 5),
-        Numeral::Other => eprintln!(rt; "the goal is not a number"),
+        Some(goal) => fill_files(&rt, goal, count == 5),
+        None => eprintln!(rt; "the goal is not a number"),
     }
 }

@@ -18,8 +18,6 @@ use Rattle.rules.specs.Filling.{At, here, past_gap, past_node, within, graft, li
 use Rattle.rules.proofs.Spent.{records_beside, holes_beside}
 use Rattle.rules.proofs.Goals.{goals_graft}
 use Rattle.table.specs.declared.Purpose.TheVariants.{Check, Filling}
-use Rattle.table.specs.declared.Verdict.{Verdict}
-use Rattle.table.specs.declared.Verdict.TheVariants as verdict
 use Rattle.table.specs.Passing.{Good}
 use Rattle.table.specs.Reading.{prop_at, term_at}
 use Rattle.table.specs.Tests.{tests}
@@ -31,13 +29,11 @@ use Rattle.editing.proofs.Edits.{goal_fillable, whole_prop, filled_term, filling
 use Rattle.editing.proofs.Joins.{expected_joined}
 use Rattle.step.specs.Rooms.{Rooms}
 use Rattle.entry.specs.declared.Counts.{Counts}
-use Rattle.entry.specs.declared.Mark.{Mark}
-use Rattle.entry.specs.declared.Mark.TheVariants as mark
+use Rattle.std.specs.Prelude.{Ok, Result, ⊤, Err}
+use Rattle.numbers.specs.declared.refusal.Refusal.{Refusal}
 use Rattle.entry.proofs.Answers.{table_ok}
-use Rattle.entry.specs.Mark.{long_enough, context_of, start_of, root_run, unless_refused, table_run, outcome, counts_of, MarkedAs, Marks}
-use Rattle.filling.specs.declared.answer.Filled.{Filled}
-use Rattle.filling.specs.declared.answer.Filled.TheVariants as fill
-use Rattle.filling.specs.Fill.{Lent, all_long, Accepts, counts_from, RunAs, EditedAs, Goal, GoalAs, FillingAs, OldAs, RoomsAs, Fills}
+use Rattle.entry.specs.Mark.{long_enough, context_of, start_of, root_run, unless_refused, table_run, outcome, counts_of, Mark, MarkedAs, Marks}
+use Rattle.filling.specs.Fill.{Filled, Lent, all_long, Accepts, counts_from, RunAs, EditedAs, Goal, GoalAs, FillingAs, OldAs, RoomsAs, Fills}
 use Rattle.filling.specs.Agree.{own, joint, Outgrown, Grafted, Agrees, FirstCheck, Demand3Bytes}
 
 -- THE COUNTS of a tree with us in a gap's place: one gap less, and those of us
@@ -126,8 +122,8 @@ module _ {S S' : Lent} {l f : List ℕ} {k : ℕ} {a : Answer} {r : Filled} (z :
           fits = fits;
           filling = b;
           ran = ran ∙ ap (ok b) e;
-          alone = subst (λ (s : St). Alone b s (fill.Accepted c)) e (subst (Alone b st₂) y.answer y);
-          answer = w.0 ∙ ap mark.Accepted (counts_joint z.goal a b z.stands st st₂ d);
+          alone = subst (λ (s : St). Alone b s (Ok c)) e (subst (Alone b st₂) y.answer y);
+          answer = w.0 ∙ ap Ok (counts_joint z.goal a b z.stands st st₂ d);
           rooms = w.1;
           goals = goals_graft z.stands b.tree (lift z.goal d) d;
         }
@@ -155,10 +151,10 @@ module _ {S S' : Lent} {l f : List ℕ} {k : ℕ} {a : Answer} {r : Filled} (z :
         (table_fills l good a st accepted (term_at z.table z.goal.term) z.goal z.stands (filling_place fillable z.edited))
 
     -- whatever the edited table's tests say
-    agrees_tests : (v : Verdict) → EditedAs S S' z.table z.goal r v → Marked (unless_refused v (root_run z.table)) → AgreesWith r
+    agrees_tests : (v : Result ⊤ Refusal) → EditedAs S S' z.table z.goal r v → Marked (unless_refused v (root_run z.table)) → AgreesWith r
     unfolding unless_refused
-    agrees_tests (verdict.Refused u) y w = subst⁻¹ AgreesWith y.answer (refl, w.0, w.1)
-    agrees_tests verdict.Passes y w = agrees_run own_run (root_run z.table) refl y w follows
+    agrees_tests (Err u) y w = subst⁻¹ AgreesWith y.answer (refl, w.0, w.1)
+    agrees_tests (Ok u) y w = agrees_run own_run (root_run z.table) refl y w follows
 
     agrees : long_enough R ≡ true → Marks z.table R R' m → AgreesWith r
     unfolding outcome
@@ -167,11 +163,11 @@ module _ {S S' : Lent} {l f : List ℕ} {k : ℕ} {a : Answer} {r : Filled} (z :
         (subst (λ (b : Bool). Marked (cond b (table_run z.table) (refused 1 0))) long w)
 
 -- THE FIRST TWO CALLS
-accepted_mark : (l : List ℕ) (Q Q' : Rooms) (c : Counts) → Marks l Q Q' (mark.Accepted c) → FirstCheck l Q Q' c
+accepted_mark : (l : List ℕ) (Q Q' : Rooms) (c : Counts) → Marks l Q Q' (Ok c) → FirstCheck l Q Q' c
 unfolding outcome
 accepted_mark l Q Q' c w = at (long_enough Q) (table_run l) refl w
   where
-    at : (b : Bool) (o : Out Answer) → table_run l ≡ o → MarkedAs l Q Q' (cond b o (refused 1 0)) (mark.Accepted c) → FirstCheck l Q Q' c
+    at : (b : Bool) (o : Out Answer) → table_run l ≡ o → MarkedAs l Q Q' (cond b o (refused 1 0)) (Ok c) → FirstCheck l Q Q' c
     at true (ok a st) e w = let x = w.0 in record { answer = a; state = st; run = e; counts = cc; rooms = w.1 }
     at true (stop s) e w = absurd (let x = w.0 in let z : ◌≡◌ {A = ℕ} 0 1 = cc in omega arith)
     at false o e w = absurd (let x = w.0 in let z : ◌≡◌ {A = ℕ} 0 1 = cc in omega arith)

@@ -1,7 +1,7 @@
 -- An answer in some rooms is the answer in others: in rooms of just the listed sizes, whatever they held before; and in rooms of any length, of which these are
 -- the first bytes. Assumes nothing.
 use mathlib.Core.Path.{◌≡◌, ap, sym, subst, subst⁻¹, ◌∙◌}
-use mathlib.Core.Bool.{Bool, true, false, ◌&&◌}
+use mathlib.Core.Bool.{Bool, true, false}
 use mathlib.Core.List.{List, [], ◌++◌}
 use Prim.Native.Nat.{ℕ, ◌≤◌}
 use native.Mathlib.Omega.{arith}
@@ -9,6 +9,7 @@ use borrow.Author.Tests.{leb-true}
 use lib.ListN.{length, take, drop, length-take}
 use lib.Dec.{leb, ltb}
 use lib.Seq.{length-take-le, take-append-le}
+use Rattle.std.specs.Prelude.{Result, ⊤, Ok, Err}
 use Rattle.numbers.specs.declared.refusal.Refusal.{Refusal}
 use Rattle.numbers.specs.Refusals.{refusal_at}
 use Rattle.rules.specs.State.{St}
@@ -16,21 +17,23 @@ use Rattle.rules.specs.Tree.{Gap, holes}
 use Rattle.rules.specs.Step.{Out, stop, ok, Answer}
 use Rattle.rules.specs.Filling.{at_goal}
 use Rattle.table.specs.declared.Purpose.TheVariants as purpose
-use Rattle.table.specs.declared.Verdict.{Verdict}
-use Rattle.table.specs.declared.Verdict.TheVariants as verdict
 use Rattle.table.specs.Tests.{tests}
 use Rattle.table.specs.Reading.{term_at}
 use Rattle.editing.specs.Edited.{edited_bytes, edited_tests}
-use Rattle.step.specs.Rooms.{rooms}
 use Rattle.entry.specs.Mark.{tree_bytes, goals_bytes, props_bytes, work_bytes, long_enough, table_run}
 use Rattle.entry.proofs.Rests.{cleared_exact, cleared_parts, cleared_front}
 use Rattle.entry.proofs.Answers.{both_true}
 use Rattle.entry.proofs.Marks as marks
 use Rattle.filling.specs.declared.answer.Which.{Which}
 use Rattle.filling.specs.declared.answer.Which.TheVariants.{Old}
-use Rattle.filling.specs.declared.answer.Filled.{Filled}
-use Rattle.filling.specs.Fill.{Lent, lent, all_long, Refuses, Accepts, RunAs, EditedAs, Goal, GoalAs, FillingAs, OldAs, RoomsAs, Fills}
+use Rattle.filling.specs.Fill.{Lent, Filled, lent, all_long, Refuses, Accepts, RunAs, EditedAs, Goal, GoalAs, FillingAs, OldAs, RoomsAs, Fills}
 use Rattle.filling.specs.Steps.{ExactAll}
+
+-- ROOMS OF JUST THE LISTED SIZES are of those sizes when they are as long as before
+pub exact_kept : {t g p w e t' g' p' w' e' : List ℕ} → ExactAll (lent t g p w e) → length t' ≡ length t → length g' ≡ length g → length p' ≡ length p → length w' ≡ length w
+    → length e' ≡ length e → ExactAll (lent t' g' p' w' e')
+exact_kept x a b c d f =
+    record { rooms = record { tree = a ∙ x.rooms.tree; goals = b ∙ x.rooms.goals; props = c ∙ x.rooms.props; work = d ∙ x.rooms.work }; edited = f ∙ x.edited }
 
 -- REFUSALS AND ACCEPTANCES CARRY OVER from the rooms S to the rooms T
 pub record Carries (S S' T T' : Lent) : Type 0 where
@@ -43,9 +46,9 @@ module _ {S S' T T' : Lent} (c : Carries S S' T T') where
   run_on e g r (stop s) z = c.refuses z
   run_on e g r (ok b st) z = c.accepts z
 
-  pub edited_on : (e : List ℕ) (g : Gap) (r : Filled) (v : Verdict) → EditedAs S S' e g r v → EditedAs T T' e g r v
-  edited_on e g r (verdict.Refused u) z = c.refuses z
-  edited_on e g r verdict.Passes z = run_on e g r (at_goal (term_at e g.term) g) z
+  pub edited_on : (e : List ℕ) (g : Gap) (r : Filled) (v : Result ⊤ Refusal) → EditedAs S S' e g r v → EditedAs T T' e g r v
+  edited_on e g r (Err u) z = c.refuses z
+  edited_on e g r (Ok u) z = run_on e g r (at_goal (term_at e g.term) g) z
 
   pub goal_on : (l f : List ℕ) (k : ℕ) (a : Answer) (r : Filled) → Goal S S' l f k a r → Goal T T' l f k a r
   goal_on l f k a r z =
@@ -63,9 +66,9 @@ module _ {S S' T T' : Lent} (c : Carries S S' T T') where
   choice_on l f k a r false z = c.refuses z
   choice_on l f k a r true z = goal_on l f k a r z
 
-  pub filling_on : (l f : List ℕ) (k : ℕ) (a : Answer) (r : Filled) (v : Verdict) → FillingAs S S' l f k a r v → FillingAs T T' l f k a r v
-  filling_on l f k a r (verdict.Refused u) z = c.refuses z
-  filling_on l f k a r verdict.Passes z = choice_on l f k a r (ltb k (holes a.tree)) z
+  pub filling_on : (l f : List ℕ) (k : ℕ) (a : Answer) (r : Filled) (v : Result ⊤ Refusal) → FillingAs S S' l f k a r v → FillingAs T T' l f k a r v
+  filling_on l f k a r (Err u) z = c.refuses z
+  filling_on l f k a r (Ok u) z = choice_on l f k a r (ltb k (holes a.tree)) z
 
   pub old_on : (l f : List ℕ) (k : ℕ) (r : Filled) (o : Out Answer) → OldAs S S' l f k r o → OldAs T T' l f k r o
   old_on l f k r (stop s) z = c.refuses z
@@ -126,13 +129,24 @@ pub fills_short : (S S' : Lent) (l f : List ℕ) (k : ℕ) (r : Filled) (u : Ref
 fills_short S S' l f k r u short e z = subst⁻¹ (RoomsAs S S' l f k r) short (subst (λ (u : Refusal). Refuses S S' u Old r) e z)
 
 -- what the code's test of the rooms says
-module _ (tree goals ps work edited : List ℕ) (b : Bool) (is : b ≡ long_enough (rooms tree goals ps work)) where
-  test_is : b && leb edited_bytes (length edited) ≡ all_long (lent tree goals ps work edited)
-  unfolding all_long
-  test_is = ap (λ (b : Bool). b && leb edited_bytes (length edited)) is
+module _ (tree goals ps work edited : List ℕ) (b : Bool) (is : b ≡ all_long (lent tree goals ps work edited)) where
+  pub long_true : b ≡ true → all_long (lent tree goals ps work edited) ≡ true
+  long_true h = sym is ∙ h
 
-  pub test_true : b && leb edited_bytes (length edited) ≡ true → all_long (lent tree goals ps work edited) ≡ true
-  test_true h = sym test_is ∙ h
+  pub long_false : b ≡ false → all_long (lent tree goals ps work edited) ≡ false
+  long_false h = sym is ∙ h
 
-  pub test_false : b && leb edited_bytes (length edited) ≡ false → all_long (lent tree goals ps work edited) ≡ false
-  test_false h = sym test_is ∙ h
+  pub tree_long : b ≡ true → tree_bytes ≤ length tree
+  tree_long h = (all_lengths (lent tree goals ps work edited) (long_true h)).0
+
+  pub goals_long : b ≡ true → goals_bytes ≤ length goals
+  goals_long h = (all_lengths (lent tree goals ps work edited) (long_true h)).1
+
+  pub props_long : b ≡ true → props_bytes ≤ length ps
+  props_long h = (all_lengths (lent tree goals ps work edited) (long_true h)).2
+
+  pub work_long : b ≡ true → work_bytes ≤ length work
+  work_long h = (all_lengths (lent tree goals ps work edited) (long_true h)).3
+
+  pub edited_long : b ≡ true → edited_bytes ≤ length edited
+  edited_long h = (all_lengths (lent tree goals ps work edited) (long_true h)).4

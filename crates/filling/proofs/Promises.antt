@@ -17,8 +17,6 @@ use Rattle.rules.specs.Filling.{before, at_goal}
 use Rattle.rules.proofs.Goals.{goals_in_order}
 use Rattle.rules.proofs.Spent.{holes_goals}
 use Rattle.table.specs.declared.Purpose.TheVariants.{Check, Filling}
-use Rattle.table.specs.declared.Verdict.{Verdict}
-use Rattle.table.specs.declared.Verdict.TheVariants as verdict
 use Rattle.table.specs.Tests.{tests}
 use Rattle.table.specs.Passing.{Good}
 use Rattle.table.specs.Reading.{term_at}
@@ -37,9 +35,8 @@ use Rattle.entry.proofs.Answers.{table_ok}
 use Rattle.entry.proofs.Promises.{gap_term, sorries_are, same_tree}
 use Rattle.filling.specs.declared.answer.Which.{Which}
 use Rattle.filling.specs.declared.answer.Which.TheVariants as which
-use Rattle.filling.specs.declared.answer.Filled.{Filled}
-use Rattle.filling.specs.declared.answer.Filled.TheVariants as filled
-use Rattle.filling.specs.Fill.{Lent, all_long, Refuses, counts_from, RunAs, EditedAs, Goal, GoalAs, FillingAs, OldAs, RoomsAs}
+use Rattle.std.specs.Prelude.{Ok, Err, Result, ⊤}
+use Rattle.filling.specs.Fill.{Lent, Filled, all_long, Refuses, counts_from, RunAs, EditedAs, Goal, GoalAs, FillingAs, OldAs, RoomsAs}
 use Rattle.filling.specs.Promises.{left_table, sorry_of, LeftEdited, LeavesEdited, FilledSorries, SameIfFilled, TwoFillingsAgree}
 
 -- THE FIRST FOUR STAGES do not look at what the rooms hold. They refuse every filling of goal k with f alike, or find that goal in the old run
@@ -67,9 +64,9 @@ module _ (l f : List ℕ) (k : ℕ) where
   by_number good fills a st run false = inl record { refusal = refusal_at 31 0; in_table = which.Old; so = λ S S' r x. x }
   by_number good fills a st run true = inr record { old_good = good; good = fills; answer = a; state = st; run = run; so = λ S S' r x. x }
 
-  by_filling : Good Check l → (a : Answer) (st : St) → root_run l ≡ ok a st → (v : Verdict) → tests Filling f ≡ v → Alike (λ S S' r. FillingAs S S' l f k a r v)
-  by_filling good a st run (verdict.Refused u) e = inl record { refusal = u; in_table = which.Filling; so = λ S S' r x. x }
-  by_filling good a st run verdict.Passes e = by_number good e a st run (ltb k (holes a.tree))
+  by_filling : Good Check l → (a : Answer) (st : St) → root_run l ≡ ok a st → (v : Result ⊤ Refusal) → tests Filling f ≡ v → Alike (λ S S' r. FillingAs S S' l f k a r v)
+  by_filling good a st run (Err u) e = inl record { refusal = u; in_table = which.Filling; so = λ S S' r x. x }
+  by_filling good a st run (Ok u) e = by_number good e a st run (ltb k (holes a.tree))
 
   by_old : (o : Out Answer) → table_run l ≡ o → Alike (λ S S' r. OldAs S S' l f k r o)
   by_old (stop s) e = inl record { refusal = told s; in_table = which.Old; so = λ S S' r x. x }
@@ -85,31 +82,31 @@ table_left l f e S size h = ap (λ (n : ℕ). take n S.edited) (sym size) ∙ h
 
 -- AN ACCEPTED FILLING
 abbrev goals_in : Counts → Filled → ℕ
-goals_in d (filled.Accepted c) = c.goals
-goals_in d (filled.Refused u w) = d.goals
+goals_in d (Ok c) = c.goals
+goals_in d (Err e) = d.goals
 
 module _ (l f : List ℕ) (k : ℕ) (S S' : Lent) (c : Counts) where
-  not_refused : {A : Type 0} {u : Refusal} {w : Which} → Refuses S S' u w (filled.Accepted c) → A
+  not_refused : {A : Type 0} {u : Refusal} {w : Which} → Refuses S S' u w (Ok c) → A
   not_refused x = absurd (let y = x.answer in let z : ◌≡◌ {A = ℕ} 0 1 = cc in omega arith)
 
-  kept_run : (e : List ℕ) (g : Gap) (o : Out Answer) → RunAs S S' e g (filled.Accepted c) o → take (length e) S'.edited ≡ e
+  kept_run : (e : List ℕ) (g : Gap) (o : Out Answer) → RunAs S S' e g (Ok c) o → take (length e) S'.edited ≡ e
   kept_run e g (stop s) x = not_refused x
   kept_run e g (ok b st) x = x.table
 
-  kept : (e : List ℕ) (g : Gap) (v : Verdict) → EditedAs S S' e g (filled.Accepted c) v → (v ≡ verdict.Passes) × (take (length e) S'.edited ≡ e)
-  kept e g (verdict.Refused u) x = not_refused x
-  kept e g verdict.Passes x = (refl, kept_run e g (at_goal (term_at e g.term) g) x)
+  kept : (e : List ℕ) (g : Gap) (v : Result ⊤ Refusal) → EditedAs S S' e g (Ok c) v → (v ≡ Ok tt) × (take (length e) S'.edited ≡ e)
+  kept e g (Err u) x = not_refused x
+  kept e g (Ok u) x = (refl, kept_run e g (at_goal (term_at e g.term) g) x)
 
-  sorries_run : (e : List ℕ) (g : Gap) (o : Out Answer) → at_goal (term_at e g.term) g ≡ o → RunAs S S' e g (filled.Accepted c) o → Sorries (term_at e g.term) S'.rooms c
+  sorries_run : (e : List ℕ) (g : Gap) (o : Out Answer) → at_goal (term_at e g.term) g ≡ o → RunAs S S' e g (Ok c) o → Sorries (term_at e g.term) S'.rooms c
   sorries_run e g (stop s) h x = not_refused x
   sorries_run e g (ok b st) h x =
       sorries_are e S'.rooms _ (term_at e g.term) b.tree c (goals_in_order (term_at e g.term) _ _ _ b st h) (ap (goals_in c) x.answer) x.rooms.holds.trees
 
-  sorries_edit : (e : List ℕ) (g : Gap) (v : Verdict) → EditedAs S S' e g (filled.Accepted c) v → Sorries (term_at e g.term) S'.rooms c
-  sorries_edit e g (verdict.Refused u) x = not_refused x
-  sorries_edit e g verdict.Passes x = sorries_run e g (at_goal (term_at e g.term) g) refl x
+  sorries_edit : (e : List ℕ) (g : Gap) (v : Result ⊤ Refusal) → EditedAs S S' e g (Ok c) v → Sorries (term_at e g.term) S'.rooms c
+  sorries_edit e g (Err u) x = not_refused x
+  sorries_edit e g (Ok u) x = sorries_run e g (at_goal (term_at e g.term) g) refl x
 
-  module _ (a : Answer) (st : St) (run : root_run l ≡ ok a st) (z : Goal S S' l f k a (filled.Accepted c)) where
+  module _ (a : Answer) (st : St) (run : root_run l ≡ ok a st) (z : Goal S S' l f k a (Ok c)) where
     there : k < length (sorries (term_at l 0))
     there =
         let order = ap length (goals_in_order (term_at l 0) _ _ _ a st run) in
@@ -144,16 +141,16 @@ pub filled_sorries : FilledSorries
 filled_sorries l f k S S' c x = at (by_rooms l f k (all_long S))
   where
     at : Alike l f k (λ T T' r. RoomsAs T T' l f k r (all_long S)) → Sorries (term_at (left_table l f S') (sorry_of l k)) S'.rooms c
-    at (inl y) = not_refused l f k S S' c (y.so S S' (filled.Accepted c) x)
-    at (inr y) = sorries_left l f k S S' c y.answer y.state y.run (y.so S S' (filled.Accepted c) x)
+    at (inl y) = not_refused l f k S S' c (y.so S S' (Ok c) x)
+    at (inr y) = sorries_left l f k S S' c y.answer y.state y.run (y.so S S' (Ok c) x)
 
 pub leaves_edited : LeavesEdited
 leaves_edited l f k S S' c x = at (by_rooms l f k (all_long S))
   where
     at : Alike l f k (λ T T' r. RoomsAs T T' l f k r (all_long S)) → LeftEdited l f k (left_table l f S')
-    at (inl y) = not_refused l f k S S' c (y.so S S' (filled.Accepted c) x)
+    at (inl y) = not_refused l f k S S' c (y.so S S' (Ok c) x)
     at (inr y) =
-        let z = y.so S S' (filled.Accepted c) x in
+        let z = y.so S S' (Ok c) x in
         left l f k S S' c y.answer y.state y.run z (goal_fillable l f y.old_good y.good y.answer y.state y.run z.goal z.stands)
 
 -- TWO FILLINGS, each stage on one finding of both
@@ -179,9 +176,9 @@ module _ (l f : List ℕ) (k : ℕ) (S S' Z Z' : Lent) (r s : Filled) where
               },
         )
 
-    same_edit : (v : Verdict) → EditedAs S S' e g r v → EditedAs Z Z' e g s v → Same
-    same_edit (verdict.Refused u) x y = both_refuse x y
-    same_edit verdict.Passes x y = same_run (at_goal (term_at e g.term) g) x y
+    same_edit : (v : Result ⊤ Refusal) → EditedAs S S' e g r v → EditedAs Z Z' e g s v → Same
+    same_edit (Err u) x y = both_refuse x y
+    same_edit (Ok u) x y = same_run (at_goal (term_at e g.term) g) x y
 
   -- the goals and the edited tables are one
   same_goal : (a : Answer) (x : Goal S S' l f k a r) → Goal Z Z' l f k a s → Fillable l f x.goal.term → Same

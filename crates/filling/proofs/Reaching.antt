@@ -1,6 +1,5 @@
 -- The old terms run over the edited table's propositions as they ran over their own, and the goal that is asked for has its picture. Assumes nothing.
 use mathlib.Core.Path.{◌≡◌, ap, ap₂, sym, subst, subst⁻¹, ◌∙◌}
-use mathlib.Core.Bool.{false≢true}
 use mathlib.Core.List.{List}
 use Prim.Native.Nat.{ℕ, ◌+◌, ◌*◌, ◌<◌, ◌≤◌}
 use native.Mathlib.Omega.{arith}
@@ -35,8 +34,9 @@ use Rattle.context.proofs.Laws.{ctx_none}
 use Rattle.arena.specs.Load as load
 use Rattle.step.specs.declared.picture.Start.{Start}
 use Rattle.step.specs.declared.state.State.{State}
-use Rattle.step.specs.declared.state.Ran.{Ran as Outcome}
-use Rattle.step.specs.declared.state.Ran.TheVariants as ran
+use Rattle.step.specs.declared.state.Answer.{Answer as Answered}
+use Rattle.std.specs.Prelude.{Result, Ok, Err}
+use Rattle.numbers.specs.declared.refusal.Refusal.{Refusal}
 use Rattle.step.specs.declared.state.Want.TheVariants as want
 use Rattle.step.specs.Rooms.{Rooms, rooms, reads, ctx_of, count_of, Loaded, first_pictured}
 use Rattle.step.specs.Picture.{pictured_state, pictured_type, PictureIs, PicturesAre, Copied, StartsAt}
@@ -47,7 +47,7 @@ use Rattle.step.proofs.Goals.{goal_unique, picture_moved, ready_hole}
 use Rattle.entry.specs.Mark.{context_of, start_of, root_run}
 use Rattle.entry.specs.Ran.{Exact}
 use Rattle.filling.specs.Steps.{GoalOf, ReachedFor}
-use Rattle.entry.proofs.Answers.{is_ok, same_answer}
+use Rattle.entry.proofs.Answers.{same_answer}
 
 -- ONE GOAL has each number
 pub goal_same : {l : List ℕ} {k : ℕ} {g g' : Gap} → GoalOf l k g → GoalOf l k g' → g ≡ g'
@@ -146,14 +146,14 @@ module _ {l f : List ℕ} {q : ℕ} {e : List ℕ} (h : Fillable l f q) (E : Edi
           (waiting_loaded.table n n_in ∙ ap (prop_at j) (k ∙ expected_joined J) ∙ whole_prop h J (expected l) old_in)
           (ctx_none (reads j R.props) R.work)
 
-      module _ (R' : Rooms) (r : Outcome) (n : ℕ) (k : n ≡ expected j) (meets : Meets j R R' 0 (want.Check (sort.Proposition (record { 0 = n }))) (beginning number) r)
+      module _ (R' : Rooms) (r : Result Answered Refusal) (n : ℕ) (k : n ≡ expected j) (meets : Meets j R R' 0 (want.Check (sort.Proposition (record { 0 = n }))) (beginning number) r)
           (g : Gap) (goal : GoalOf l number g) where
         pub accepts : (st : State) × Accepts j R R' (beginning number) st (root_run l)
         accepts = at r meets
           where
-            at : (r : Outcome) → Meets j R R' 0 (want.Check (sort.Proposition (record { 0 = n }))) (beginning number) r → (st : State) × Accepts j R R' (beginning number) st (root_run l)
-            at (ran.Has T st) h = (st, subst (λ (o : Out Answer). Accepts j R R' (beginning number) st o) (root_is n k) h.accepted)
-            at (ran.Refused x) h = absurd (false≢true (ap is_ok (sym (sym (root_is n k) ∙ h) ∙ goal.accepts)))
+            at : (r : Result Answered Refusal) → Meets j R R' 0 (want.Check (sort.Proposition (record { 0 = n }))) (beginning number) r → (st : State) × Accepts j R R' (beginning number) st (root_run l)
+            at (Ok a) h = (a.state, subst (λ (o : Out Answer). Accepts j R R' (beginning number) a.state o) (root_is n k) h.accepted)
+            at (Err x) h = let e = sym (sym (root_is n k) ∙ h) ∙ goal.accepts in cc
 
         pictured : PictureIs j R'.props R'.work (count_of j accepts.0) g
         pictured =

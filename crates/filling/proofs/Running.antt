@@ -19,8 +19,9 @@ use Rattle.editing.specs.Edited.{Fillable, Edited}
 use Rattle.editing.proofs.Edits.{filling_nodes}
 use Rattle.step.specs.declared.picture.Start.{Start}
 use Rattle.step.specs.declared.state.State.{State}
-use Rattle.step.specs.declared.state.Ran.{Ran as Outcome}
-use Rattle.step.specs.declared.state.Ran.TheVariants as ran
+use Rattle.step.specs.declared.state.Answer.{Answer as Answered}
+use Rattle.std.specs.Prelude.{Result, Ok, Err}
+use Rattle.numbers.specs.declared.refusal.Refusal.{Refusal}
 use Rattle.step.specs.declared.state.Want.TheVariants as want
 use Rattle.step.specs.Rooms.{Rooms, reads, ctx_of, st_of, count_of}
 use Rattle.prop.specs.Room.{TypeIn}
@@ -28,8 +29,7 @@ use Rattle.step.specs.Contract.{Ready, Accepts, RanAs as Meets, run_of}
 use Rattle.step.specs.Trees.{TreesAre}
 use Rattle.entry.specs.Ran.{Exact, Ran, RanAs}
 use Rattle.filling.specs.Steps.{ExactAll, GoalOf, HoleAt, ReachedFor, Reached, Fitting, Finishes, RunsFilling}
-use Rattle.filling.specs.declared.answer.Filled.{Filled}
-use Rattle.filling.specs.Fill.{Lent, RunAs}
+use Rattle.filling.specs.Fill.{Filled, Lent, RunAs}
 use Rattle.filling.proofs.Overs.{carries_over, run_on}
 use Rattle.filling.proofs.Reaching.{goal_same}
 
@@ -65,17 +65,17 @@ module _ (e : List ℕ) (q : ℕ) (R R' : Rooms) (s : Start) (g : Gap) (x : Exac
         goals = omega (arith, left.goals, m);
       }
 
-  pub hole_ran : (r : Outcome) → Meets e R R' q (want.Check s.wanted) s.state r → RanAs e (at_goal (term_at e g.term) g) R' r
-  hole_ran (ran.Has T st) k = fits st (subst (λ (o : Out Answer). Accepts e R R' s.state st o) run_is k.accepted)
-  hole_ran (ran.Refused x) k = sym run_is ∙ k
+  pub hole_ran : (r : Result Answered Refusal) → Meets e R R' q (want.Check s.wanted) s.state r → RanAs e (at_goal (term_at e g.term) g) R' r
+  hole_ran (Ok a) k = fits a.state (subst (λ (o : Out Answer). Accepts e R R' s.state a.state o) run_is k.accepted)
+  hole_ran (Err x) k = sym run_is ∙ k
 
-  pub hole_fitting : (size : ℕ) → 16 ≤ size → Exact R' → (r : Outcome) → Meets e R R' q (want.Check s.wanted) s.state r → Fitting e size s.state.serials R' r
+  pub hole_fitting : (size : ℕ) → 16 ≤ size → Exact R' → (r : Result Answered Refusal) → Meets e R R' q (want.Check s.wanted) s.state r → Fitting e size s.state.serials R' r
   hole_fitting size long y r k = at r (hole_ran r k)
     where
-      at : (r : Outcome) → RanAs e (at_goal (term_at e g.term) g) R' r → Fitting e size s.state.serials R' r
-      at (ran.Refused x) k = tt
-      at (ran.Has T st) k =
-          let z = spent st k.answer k.accepts in
+      at : (r : Result Answered Refusal) → RanAs e (at_goal (term_at e g.term) g) R' r → Fitting e size s.state.serials R' r
+      at (Err x) k = tt
+      at (Ok a) k =
+          let z = spent a.state k.answer k.accepts in
           let same : s.state.serials ≡ g.state.serials = ap (λ (st : St). st.serials) h.starts.counts in (
             long,
             omega (arith, k.holds.made.room, y.props),
@@ -96,7 +96,7 @@ module _ (l : List ℕ) (k q : ℕ) (hole : HoleAt l k q) (e e₁ : List ℕ) (s
       subst⁻¹ (λ (e : List ℕ). Ready e R q s.state × TypeIn (count_of e s.state) s.wanted) same
       (subst (λ (q : ℕ). Ready e R q s.state) hole.here r.ready, r.starts.wanted.among)
 
-  module _ (x : Exact R) (few : nodes (term_at e q) ≤ most_terms) (R' : Rooms) (r : Outcome) (meets : Meets e₁ R R' q (want.Check s.wanted) s.state r) where
+  module _ (x : Exact R) (few : nodes (term_at e q) ≤ most_terms) (R' : Rooms) (r : Result Answered Refusal) (meets : Meets e₁ R R' q (want.Check s.wanted) s.state r) where
     over_e : Meets e R R' q (want.Check s.wanted) s.state r
     over_e = subst (λ (e : List ℕ). Meets e R R' q (want.Check s.wanted) s.state r) same meets
 
@@ -114,7 +114,7 @@ module _ (l : List ℕ) (k q : ℕ) (hole : HoleAt l k q) (e e₁ : List ℕ) (s
         )
 
 -- so the answer is that of the rules' run at the goal
-pub run_from : (l : List ℕ) (k : ℕ) (e e₁ : List ℕ) → e₁ ≡ e → (S S₁ S' : Lent) → ExactAll S → ExactAll S₁ → (serials : ℕ) (answer : Outcome) (r : Filled) → Finishes S₁ S' e₁ serials answer r
+pub run_from : (l : List ℕ) (k : ℕ) (e e₁ : List ℕ) → e₁ ≡ e → (S S₁ S' : Lent) → ExactAll S → ExactAll S₁ → (serials : ℕ) (answer : Result Answered Refusal) (r : Filled) → Finishes S₁ S' e₁ serials answer r
     → ((g : Gap) → GoalOf l k g → (g.state.serials ≡ serials) × RanAs e₁ (at_goal (term_at e g.term) g) S₁.rooms answer) → RunsFilling S S' l k e r
 run_from l k e e₁ same S S₁ S' x y serials answer r f z g goal =
     let w = z g goal in

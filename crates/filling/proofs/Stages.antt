@@ -1,6 +1,6 @@
 -- The stages of a filling's answer, each from what its step found. Assumes nothing.
 use mathlib.Core.Path.{◌≡◌, ap, sym, subst, subst⁻¹, ◌∙◌}
-use mathlib.Core.Bool.{true, false, true≢false}
+use mathlib.Core.Bool.{true, false}
 use mathlib.Core.List.{List}
 use Prim.Native.Nat.{ℕ, ◌+◌, ◌<◌, ◌≤◌}
 use native.Mathlib.Omega.{arith}
@@ -14,8 +14,6 @@ use Rattle.rules.specs.Tree.{Gap, holes}
 use Rattle.rules.specs.Step.{Out, stop, ok, Answer}
 use Rattle.rules.specs.Filling.{At, before, at_goal}
 use Rattle.table.specs.declared.Purpose.TheVariants as purpose
-use Rattle.table.specs.declared.Verdict.{Verdict}
-use Rattle.table.specs.declared.Verdict.TheVariants as verdict
 use Rattle.table.specs.Tests.{tests, Tested}
 use Rattle.table.specs.Passing.{Good}
 use Rattle.table.specs.Reading.{term_at}
@@ -26,47 +24,45 @@ use Rattle.step.specs.Rooms.{Rooms}
 use Rattle.step.specs.Trees.{goal_at}
 use Rattle.step.proofs.Goals.{goal_term, goal_place}
 use Rattle.entry.specs.declared.Counts.{Counts}
-use Rattle.entry.specs.declared.Mark.{Mark}
-use Rattle.entry.specs.declared.Mark.TheVariants as mark
-use Rattle.entry.specs.Mark.{work_bytes, root_run, table_run, MarkedAs}
-use Rattle.entry.proofs.Answers.{is_accepted, refused_by, counts_of_mark, same_answer, table_ok}
+use Rattle.std.specs.Prelude.{Ok, Err, Result, ⊤}
+use Rattle.entry.specs.Mark.{work_bytes, root_run, table_run, counts_of, Mark, MarkedAs}
+use Rattle.entry.proofs.Answers.{same_answer, table_ok}
 use Rattle.entry.proofs.Marks.{verdict_is}
 use Rattle.filling.specs.declared.answer.Which.TheVariants.{Old, Filling, Edit}
-use Rattle.filling.specs.declared.answer.Filled.{Filled}
-use Rattle.filling.specs.Fill.{Lent, Refuses, EditedAs, Goal, GoalAs, FillingAs, OldAs}
+use Rattle.filling.specs.Fill.{Lent, Filled, Refuses, EditedAs, Goal, GoalAs, FillingAs, OldAs}
 use Rattle.filling.specs.Steps.{ExactAll, OldRan, GoalOf, HoleAt, RunsFilling, FillsHole, FillsGoal}
 use Rattle.filling.proofs.Overs.{carries_over, run_on, goal_on, filling_on}
 
 -- 2. THE OLD TABLE
 module _ (l f : List ℕ) (k : ℕ) (S S₁ S' : Lent) (x : ExactAll S) (y : ExactAll S₁) (m : Mark) (r : Filled) where
-  pub old_refused : (u : Refusal) → m ≡ mark.Refused u → (o : Out Answer) → MarkedAs l S.rooms S₁.rooms o m → Refuses S₁ S' u Old r → OldAs S S' l f k r o
-  old_refused u e (stop s) h z = subst (λ (u : Refusal). Refuses S S' u Old r) (ap (refused_by u) (sym e ∙ h.0)) ((carries_over S S₁ S' x y).refuses z)
-  old_refused u e (ok a st) h z = absurd (true≢false (ap is_accepted (sym h.0 ∙ e)))
+  pub old_refused : (u : Refusal) → m ≡ Err u → (o : Out Answer) → MarkedAs l S.rooms S₁.rooms o m → Refuses S₁ S' u Old r → OldAs S S' l f k r o
+  old_refused u e (stop s) h z = subst (λ (u : Refusal). Refuses S S' u Old r) (let e = sym e ∙ h.0 in cc) ((carries_over S S₁ S' x y).refuses z)
+  old_refused u e (ok a st) h z = cc
 
-  pub old_accepted : (c : Counts) → m ≡ mark.Accepted c → (o : Out Answer) → o ≡ table_run l → MarkedAs l S.rooms S₁.rooms o m
+  pub old_accepted : (c : Counts) → m ≡ Ok c → (o : Out Answer) → o ≡ table_run l → MarkedAs l S.rooms S₁.rooms o m
       → FillsGoal S₁ S' l f k r → OldAs S S' l f k r o
-  old_accepted c e (stop s) t h z = absurd (true≢false (ap is_accepted (sym e ∙ h.0)))
+  old_accepted c e (stop s) t h z = cc
   old_accepted c e (ok a st) t h z = filling_on (carries_over S S₁ S' x y) l f k a r (tests purpose.Filling f) (z a st (table_ok l a st (sym t)).1)
 
-pub old_ran : (l : List ℕ) (R R₁ : Rooms) (m : Mark) (c : Counts) → m ≡ mark.Accepted c → (o : Out Answer) → o ≡ table_run l → MarkedAs l R R₁ o m → OldRan l R₁ c.goals
-old_ran l R R₁ m c e (stop s) t h = absurd (true≢false (ap is_accepted (sym e ∙ h.0)))
+pub old_ran : (l : List ℕ) (R R₁ : Rooms) (m : Mark) (c : Counts) → m ≡ Ok c → (o : Out Answer) → o ≡ table_run l → MarkedAs l R R₁ o m → OldRan l R₁ c.goals
+old_ran l R R₁ m c e (stop s) t h = cc
 old_ran l R R₁ m c e (ok a st) t h =
     let z = table_ok l a st (sym t) in
-    record { good = z.0; answer = a; state = st; accepts = z.1; holds = h.1.holds; goals = ap (λ (m : Mark). (counts_of_mark c m).goals) (sym e ∙ h.0) }
+    record { good = z.0; answer = a; state = st; accepts = z.1; holds = h.1.holds; goals = let e : c ≡ counts_of a st = cc in ap (λ (c : Counts). c.goals) e }
 
 -- 3. THE FILLING'S TESTS
-pub filling_good : (f work left : List ℕ) (v : Verdict) → length work ≡ work_bytes → Tested purpose.Filling f work left v → v ≡ verdict.Passes → Good purpose.Filling f
+pub filling_good : (f work left : List ℕ) (v : Result ⊤ Refusal) → length work ≡ work_bytes → Tested purpose.Filling f work left v → v ≡ Ok tt → Good purpose.Filling f
 filling_good f work left v x t e = sym (verdict_is purpose.Filling f work left v x t) ∙ e
 
-module _ (l f : List ℕ) (k : ℕ) (S S₁ S' : Lent) (x : ExactAll S) (y : ExactAll S₁) (v : Verdict) (left : List ℕ) (t : Tested purpose.Filling f S.rooms.work left v) (r : Filled) where
+module _ (l f : List ℕ) (k : ℕ) (S S₁ S' : Lent) (x : ExactAll S) (y : ExactAll S₁) (v : Result ⊤ Refusal) (left : List ℕ) (t : Tested purpose.Filling f S.rooms.work left v) (r : Filled) where
   verdict_of : v ≡ tests purpose.Filling f
   verdict_of = verdict_is purpose.Filling f S.rooms.work left v x.rooms.work t
 
-  pub filling_refused : (u : Refusal) → v ≡ verdict.Refused u → Refuses S₁ S' u Filling r → FillsGoal S S' l f k r
+  pub filling_refused : (u : Refusal) → v ≡ Err u → Refuses S₁ S' u Filling r → FillsGoal S S' l f k r
   filling_refused u e z a st h = subst (FillingAs S S' l f k a r) (sym e ∙ verdict_of) ((carries_over S S₁ S' x y).refuses z)
 
   -- 4. THE GOAL
-  module _ (e : v ≡ verdict.Passes) (count : ℕ) (old : OldRan l S.rooms count) where
+  module _ (e : v ≡ Ok tt) (count : ℕ) (old : OldRan l S.rooms count) where
     count_is : (a : Answer) (st : St) → root_run l ≡ ok a st → count ≡ holes a.tree
     count_is a st h = old.goals ∙ ap (λ (a : Answer). holes a.tree) (same_answer old.accepts h)
 
@@ -105,7 +101,7 @@ hole_fillable l f k q good fills h =
     subst (Fillable l f) h.here (goal_fillable l f good fills h.goal.answer h.goal.state h.goal.accepts h.gap h.goal.stands)
 
 -- 5. THE EDITED TABLE e
-module _ (l f : List ℕ) (k q : ℕ) (h : HoleAt l k q) (S S₁ S' : Lent) (x : ExactAll S) (y : ExactAll S₁) (e : List ℕ) (bytes : Bytes e) (edited : Edited l f q e) (v : Verdict) (t : v ≡ edited_tests e) (r : Filled) where
+module _ (l f : List ℕ) (k q : ℕ) (h : HoleAt l k q) (S S₁ S' : Lent) (x : ExactAll S) (y : ExactAll S₁) (e : List ℕ) (bytes : Bytes e) (edited : Edited l f q e) (v : Result ⊤ Refusal) (t : v ≡ edited_tests e) (r : Filled) where
   as_goal : ((g : Gap) → GoalOf l k g → EditedAs S S' e g r (edited_tests e)) → FillsHole S S' l f k r
   as_goal z a st c =
       let same : h.goal.answer ≡ a = same_answer h.goal.accepts c in
@@ -120,9 +116,9 @@ module _ (l f : List ℕ) (k q : ℕ) (h : HoleAt l k q) (S S₁ S' : Lent) (x :
         answer = z h.gap h.goal;
       })
 
-  pub edited_refused : (u : Refusal) → v ≡ verdict.Refused u → Refuses S₁ S' u Edit r → FillsHole S S' l f k r
+  pub edited_refused : (u : Refusal) → v ≡ Err u → Refuses S₁ S' u Edit r → FillsHole S S' l f k r
   edited_refused u w z = as_goal (λ g i. subst (EditedAs S S' e g r) (sym w ∙ t) ((carries_over S S₁ S' x y).refuses z))
 
-  pub edited_run : v ≡ verdict.Passes → RunsFilling S₁ S' l k e r → FillsHole S S' l f k r
+  pub edited_run : v ≡ Ok tt → RunsFilling S₁ S' l k e r → FillsHole S S' l f k r
   edited_run w z =
       as_goal (λ g i. subst (EditedAs S S' e g r) (sym w ∙ t) (run_on (carries_over S S₁ S' x y) e g r (at_goal (term_at e g.term) g) (z g i)))

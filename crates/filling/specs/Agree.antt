@@ -2,25 +2,20 @@
 -- with f, and the edited table is checked. `Settled` has what the first two found; `Agrees` holds the third to the second. After an accepted filling
 -- a fresh check is refused for the limit (30) or not at all: no other number comes from tests or rules.
 -- Assumes nothing.
-use Rattle.std.specs.Prelude.{◌≡◌, true, ◌⊎◌, List, ◌++◌, map, ℕ, ◌+◌, ◌-◌, ◌<◌, ◌≤◌}
+use Rattle.std.specs.Prelude.{◌≡◌, true, ◌⊎◌, List, ◌++◌, map, ℕ, ◌+◌, ◌-◌, ◌<◌, ◌≤◌, Ok, Err}
 use Rattle.numbers.specs.Refusals.{refusal_at}
 use Rattle.rules.specs.State.{St, limit, later}
 use Rattle.rules.specs.Tree.{Gap, move_gap, goals}
 use Rattle.rules.specs.Step.{ok, Answer}
 use Rattle.rules.specs.Filling.{before, after, lift, filled, RunsAfter, at_goal}
 use Rattle.table.specs.declared.Purpose.TheVariants.{Filling}
-use Rattle.table.specs.declared.Verdict.TheVariants.{Passes}
 use Rattle.table.specs.Tests.{tests}
 use Rattle.table.specs.Reading.{term_at}
 use Rattle.step.specs.Rooms.{Rooms}
 use Rattle.entry.specs.declared.Counts.{Counts}
-use Rattle.entry.specs.declared.Mark.{Mark}
-use Rattle.entry.specs.declared.Mark.TheVariants as mark
-use Rattle.entry.specs.Mark.{long_enough, table_run, Emptied, Kept, counts_of, Marks}
+use Rattle.entry.specs.Mark.{long_enough, table_run, Emptied, Kept, counts_of, Mark, Marks}
 use Rattle.filling.specs.declared.answer.Which.TheVariants.{Edit}
-use Rattle.filling.specs.declared.answer.Filled.{Filled}
-use Rattle.filling.specs.declared.answer.Filled.TheVariants as fill
-use Rattle.filling.specs.Fill.{Lent, all_long, Accepts, Goal, Fills}
+use Rattle.filling.specs.Fill.{Lent, all_long, Filled, Accepts, Goal, Fills}
 
 -- WHAT THE FILLING ITSELF MADE, of its answer's counts: the propositions made before the hole are not its own
 abbrev pub own : Gap → Counts → St
@@ -43,7 +38,7 @@ module _ {S S' : Lent} {l f : List ℕ} {k : ℕ} {a : Answer} {r : Filled} (z :
     pub over : limit < st.made + d.made
     pub place : ℕ
     pub behind : RunsAfter z.goal.term place (term_at l 0)
-    pub answer : m ≡ mark.Refused (refusal_at 30 place)
+    pub answer : m ≡ Err (refusal_at 30 place)
     pub rooms : Emptied R R'
 
   -- or it is accepted: in the old tree the filling's own stands for the goal, as do its goals, and serials made after the hole are moved up by as many as
@@ -52,16 +47,16 @@ module _ {S S' : Lent} {l f : List ℕ} {k : ℕ} {a : Answer} {r : Filled} (z :
     pub fits : st.made + d.made ≤ limit
     pub filling : Answer
     pub ran : at_goal (term_at z.table z.goal.term) z.goal ≡ ok filling (later d z.goal.state)
-    pub alone : Accepts S S' z.table z.goal filling (later d z.goal.state) (fill.Accepted c)
-    pub answer : m ≡ mark.Accepted (joint (counts_of a st) c d)
+    pub alone : Accepts S S' z.table z.goal filling (later d z.goal.state) (Ok c)
+    pub answer : m ≡ Ok (joint (counts_of a st) c d)
     pub rooms : Kept z.table R R' (filled z.goal a z.stands filling.tree d) (later d st)
     pub goals : goals (filled z.goal a z.stands filling.tree d).tree
         ≡ before z.stands ++ (goals filling.tree ++ map (move_gap (lift z.goal d) d) (after z.stands))
 
   -- IT AGREES with the filling's answer. A refusal, by the edited table's tests or by the filling's run, is the same at the same place
   abbrev pub Agrees : Filled → Type 0
-  Agrees (fill.Refused e w) = (w ≡ Edit) × (m ≡ mark.Refused e) × Emptied R R'
-  Agrees (fill.Accepted c) = Outgrown (own z.goal c) ⊎ Grafted c (own z.goal c)
+  Agrees (Err e) = (e.which ≡ Edit) × (m ≡ Err e.refusal) × Emptied R R'
+  Agrees (Ok c) = Outgrown (own z.goal c) ⊎ Grafted c (own z.goal c)
 
 -- THE OLD CHECK, accepted with the counts c: what the rules say of the table, and what is left in its rooms
 pub record FirstCheck (l : List ℕ) (Q Q' : Rooms) (c : Counts) : Type 0 where
@@ -80,5 +75,5 @@ pub record Settled (l f : List ℕ) (k : ℕ) (Q Q' : Rooms) (c : Counts) (S S' 
 -- THE THEOREM, for a goal's number k, a filling f that passes its own tests, and rooms that are long enough
 abbrev pub Demand3Bytes : Type 0
 Demand3Bytes =
-    (l f : List ℕ) (k : ℕ) (Q Q' : Rooms) (c : Counts) (S S' : Lent) (r : Filled) → Marks l Q Q' (mark.Accepted c) → Fills S S' l f k r
-    → k < c.goals → tests Filling f ≡ Passes → all_long S ≡ true → Settled l f k Q Q' c S S' r
+    (l f : List ℕ) (k : ℕ) (Q Q' : Rooms) (c : Counts) (S S' : Lent) (r : Filled) → Marks l Q Q' (Ok c) → Fills S S' l f k r
+    → k < c.goals → tests Filling f ≡ Ok tt → all_long S ≡ true → Settled l f k Q Q' c S S' r

@@ -1,5 +1,5 @@
 -- What a tester asks of a filling, as statements about `Fills` alone; proved in proofs/Promises.antt. Assumes nothing.
-use Rattle.std.specs.Prelude.{◌≡◌, List, ℕ, ◌<◌, length, get_or, take}
+use Rattle.std.specs.Prelude.{◌≡◌, List, ℕ, ◌<◌, length, get_or, take, Ok, Err}
 use Rattle.rules.specs.Term.{sorries}
 use Rattle.table.specs.declared.Purpose.TheVariants.{Check}
 use Rattle.table.specs.Passing.{Good}
@@ -8,9 +8,7 @@ use Rattle.editing.specs.Edited.{edited_size, Bytes, Edited}
 use Rattle.editing.specs.Renumbered.{StandsFor}
 use Rattle.entry.specs.declared.Counts.{Counts}
 use Rattle.entry.specs.Promises.{Sorries, SameTree}
-use Rattle.filling.specs.declared.answer.Filled.{Filled}
-use Rattle.filling.specs.declared.answer.Filled.TheVariants as filled
-use Rattle.filling.specs.Fill.{Lent, all_long, Fills}
+use Rattle.filling.specs.Fill.{Lent, all_long, Filled, Fills}
 
 -- THE EDITED TABLE that is left in its room
 abbrev pub left_table : (l f : List ℕ) → Lent → List ℕ
@@ -29,12 +27,12 @@ pub record LeftEdited (l f : List ℕ) (k : ℕ) (e : List ℕ) : Type 0 where
   pub means : StandsFor l f (sorry_of l k) e
 
 abbrev pub LeavesEdited : Type 0
-LeavesEdited = (l f : List ℕ) (k : ℕ) (S S' : Lent) (c : Counts) → Fills S S' l f k (filled.Accepted c) → LeftEdited l f k (left_table l f S')
+LeavesEdited = (l f : List ℕ) (k : ℕ) (S S' : Lent) (c : Counts) → Fills S S' l f k (Ok c) → LeftEdited l f k (left_table l f S')
 
 -- ITS GOALS are the filling's Sorrys, where that stands in the edited table
 abbrev pub FilledSorries : Type 0
 FilledSorries =
-    (l f : List ℕ) (k : ℕ) (S S' : Lent) (c : Counts) → Fills S S' l f k (filled.Accepted c)
+    (l f : List ℕ) (k : ℕ) (S S' : Lent) (c : Counts) → Fills S S' l f k (Ok c)
     → Sorries (term_at (left_table l f S') (sorry_of l k)) S'.rooms c
 
 -- TWO FILLINGS OF ONE GOAL WITH THE SAME BYTES AGREE, whatever the rooms held: in the answer, and after an acceptance in the edited table's bytes, in the
@@ -44,8 +42,8 @@ pub record SameEdit (l f : List ℕ) (S' Z' : Lent) (c : Counts) : Type 0 where
   pub trees : SameTree (left_table l f S') S'.rooms Z'.rooms c
 
 abbrev pub SameIfFilled : (l f : List ℕ) → (S' Z' : Lent) → Filled → Type 0
-SameIfFilled l f S' Z' (filled.Accepted c) = SameEdit l f S' Z' c
-SameIfFilled l f S' Z' (filled.Refused e w) = Unit {0}
+SameIfFilled l f S' Z' (Ok c) = SameEdit l f S' Z' c
+SameIfFilled l f S' Z' (Err e) = Unit {0}
 
 abbrev pub TwoFillingsAgree : Type 0
 TwoFillingsAgree =

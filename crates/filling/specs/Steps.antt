@@ -1,5 +1,6 @@
 -- What the steps of a filling know and promise, in rooms of just the listed sizes. Assumes nothing.
-use Rattle.std.specs.Prelude.{◌≡◌, List, ℕ, ◌*◌, ◌<◌, ◌≤◌, length}
+use Rattle.std.specs.Prelude.{◌≡◌, List, ℕ, ◌*◌, ◌<◌, ◌≤◌, length, Result, Ok, Err}
+use Rattle.numbers.specs.declared.refusal.Refusal.{Refusal}
 use Rattle.numbers.specs.Records.{record_at}
 use Rattle.layout.specs.File.{props}
 use Rattle.rules.specs.State.{St}
@@ -14,15 +15,13 @@ use Rattle.editing.specs.Edited.{edited_bytes}
 use Rattle.arena.specs.Copy.{most_records}
 use Rattle.arena.specs.Load.{loaded_record}
 use Rattle.step.specs.declared.picture.Start.{Start}
-use Rattle.step.specs.declared.state.Ran.{Ran as Outcome}
-use Rattle.step.specs.declared.state.Ran.TheVariants as ran
+use Rattle.step.specs.declared.state.Answer.{Answer as Answered}
 use Rattle.step.specs.Rooms.{Rooms, count_of}
 use Rattle.step.specs.Picture.{StartsAt}
 use Rattle.step.specs.Contract.{Ready}
 use Rattle.entry.specs.Mark.{tree_bytes, goals_bytes, root_run, Holds}
 use Rattle.entry.specs.Ran.{Exact, RanAs}
-use Rattle.filling.specs.declared.answer.Filled.{Filled}
-use Rattle.filling.specs.Fill.{Lent, RunAs, Goal, FillingAs}
+use Rattle.filling.specs.Fill.{Lent, Filled, RunAs, Goal, FillingAs}
 
 pub record ExactAll (S : Lent) : Type 0 where
   pub rooms : Exact S.rooms
@@ -63,13 +62,13 @@ abbrev pub Reached : (l : List ℕ) → (k : ℕ) → (e : List ℕ) → Rooms �
 Reached l k e R s = (g : Gap) → GoalOf l k g → ReachedFor e R s g
 
 -- AFTER THE FILLING'S RUN over e, which has so many bytes: the counts are within the rooms, and serials were only added
-abbrev pub Fitting : (e : List ℕ) → (size serials : ℕ) → Rooms → Outcome → Type 0
-Fitting e size serials R (ran.Refused r) = Unit {0}
-Fitting e size serials R (ran.Has T st) =
-    (16 ≤ size) × (count_of e st ≤ most_records) × (16 * st.records ≤ tree_bytes) × (8 * st.goals ≤ goals_bytes) × (serials ≤ st.serials)
+abbrev pub Fitting : (e : List ℕ) → (size serials : ℕ) → Rooms → Result Answered Refusal → Type 0
+Fitting e size serials R (Err r) = Unit {0}
+Fitting e size serials R (Ok a) =
+    (16 ≤ size) × (count_of e a.state ≤ most_records) × (16 * a.state.records ≤ tree_bytes) × (8 * a.state.goals ≤ goals_bytes) × (serials ≤ a.state.serials)
 
 -- WHAT EACH STEP PROMISES, from the last to the first: the run's answer, for whatever run it was of
-abbrev pub Finishes : (S S' : Lent) → (e : List ℕ) → (serials : ℕ) → Outcome → Filled → Type 0
+abbrev pub Finishes : (S S' : Lent) → (e : List ℕ) → (serials : ℕ) → Result Answered Refusal → Filled → Type 0
 Finishes S S' e serials answer r = (g : Gap) (o : Out Answer) → g.state.serials ≡ serials → RanAs e o S.rooms answer → RunAs S S' e g r o
 
 -- the filling's run at goal k of l

@@ -37,14 +37,10 @@ pub fn reach(
     put_term(table, hole, term_record(old, hole));
     let wanted = Sort::Proposition(expected_field(table));
     let start = State {
-        records: 0,
-        goals: 0,
-        serials: 0,
-        made: 0,
-        context: 0,
         asked: goal,
+        ..State::START
     };
-    checker::check(table, tree, goals, props, work, Term(0), wanted, start);
+    let _ = checker::check(table, tree, goals, props, work, Term(0), wanted, start);
     put_term(table, hole, root);
     recall(work)
 }

@@ -7,13 +7,14 @@ ghost use Rattle.step.specs.Rooms.{rooms};
 ghost use Rattle.filling.specs.Fill.{lent};
 ghost use Rattle.filling.specs.Steps.{ExactAll, HoleAt, Fitting, Finishes, RunsFilling};
 
-use super::answer::{Filled, Which, refuse};
+use super::answer::{Rejection, Which, refuse};
 use super::reach::reach;
 use editing::EDITED;
 use entry::Counts;
 use entry::rooms::{clear_rest, trim};
 use numbers::Term;
-use step::state::{Ran, count_of};
+use numbers::refusal::Refusal;
+use step::state::Answer;
 
 // The answer, and the rooms cleaned after the run; the edited table has so many bytes, and the run began with so many serials.
 fn finish(
@@ -24,8 +25,8 @@ fn finish(
     edited: &mut [u8],
     size: usize,
     serials: u16,
-    answer: Ran,
-) -> Filled
+    answer: Result<Answer, Refusal>,
+) -> Result<Counts, Rejection>
     requires exact_all { ExactAll (lent tree.old goals.old props.old work.old edited.old) }
     requires fitting { Fitting (take size edited.old) size serials (rooms tree.old goals.old props.old work.old) answer }
     requires size_in_bounds { size ≤ length edited.old }
@@ -34,18 +35,17 @@ fn finish(
         serials answer result }
 {
     match answer {
-        Ran::Refused(e) => refuse(tree, goals, props, work, edited, e, Which::Edit),
-        Ran::Has(_, st) => {
-            let count = count_of(&edited[..size], st);
+        Ok(answer) => {
+            let st = answer.state;
+            let count = st.count(&edited[..size]);
             clear_rest(tree, goals, props, work, st.records, st.goals, count);
             trim(edited, size, EDITED);
-            Filled::Accepted(Counts {
-                records: st.records,
-                goals: st.goals,
+            Ok(Counts {
                 serials: st.serials - serials,
-                made: st.made,
+                ..Counts::from(st)
             })
         }
+        Err(e) => refuse(tree, goals, props, work, edited, e, Which::Edit),
     }
 }
 
@@ -61,7 +61,7 @@ pub fn run_filling(
     work: &mut [u8],
     edited: &mut [u8],
     size: usize,
-) -> Filled
+) -> Result<Counts, Rejection>
     requires fillable { Fillable old.now filling.now hole.0 }
     requires hole_at { HoleAt old.now goal hole.0 }
     requires size_in_bounds { (size ≤ length edited.old) × Edited old.now filling.now hole.0 (take size edited.old) }

@@ -1,11 +1,12 @@
-// Kinds: what each of them uses of its record, one decision for propositions and one for terms.
+// Kinds: what each of them uses of its record, one decision for propositions and one for terms. Document 01's form: a match on the kind byte, with a
+// range for the unknown kinds. (Their rows are of two types: one function for both would name the fields through a trait.)
 ghost use Rattle.std.specs.Prelude.{◌≡◌};
 ghost use Rattle.layout.specs.File.{prop_kind, kind_of};
 ghost use Rattle.layout.specs.Form.{prop_shape, term_shape};
 
 // What a kind of proposition uses: of the fields a, b and c the first so many; so many children; and this range of parameter
 // counts, an empty one for a kind that is not known.
-#[derive(Clone, Copy)]
+#[derive(Clone, Copy, Debug, PartialEq, Eq)]
 pub struct PropShape {
     pub fields: u8,
     pub children: u8,
@@ -14,7 +15,7 @@ pub struct PropShape {
 }
 
 // What a kind of term uses: names, children, and a range of type tags, an empty one for a kind that is not known.
-#[derive(Clone, Copy)]
+#[derive(Clone, Copy, Debug, PartialEq, Eq)]
 pub struct TermShape {
     pub names: u8,
     pub children: u8,

@@ -7,7 +7,7 @@ use numbers::record::{Record, record_at};
 use numbers::{Name, Proposition, Term};
 
 // A term's record: sixteen bytes under a term's names.
-#[derive(Clone, Copy)]
+#[derive(Clone, Copy, Debug, PartialEq, Eq)]
 pub struct TermRecord {
     pub kind: u8,
     pub tag: u8,
@@ -20,19 +20,21 @@ pub struct TermRecord {
     pub zero: u16,
 }
 
-fn as_term(r: Record) -> TermRecord
-    ensures { result ≡ as_term r }
-{
-    TermRecord {
-        kind: r.kind,
-        tag: r.count,
-        typ: r.a,
-        name1: Name(r.b),
-        name2: Name(r.c),
-        child1: Term(r.parameters[0]),
-        child2: Term(r.parameters[1]),
-        child3: Term(r.parameters[2]),
-        zero: r.parameters[3],
+impl From<Record> for TermRecord {
+    ghost from_gives = { λ r t. t ≡ as_term r };
+
+    fn from(r: Record) -> Self {
+        TermRecord {
+            kind: r.kind,
+            tag: r.count,
+            typ: r.a,
+            name1: Name(r.b),
+            name2: Name(r.c),
+            child1: Term(r.parameters[0]),
+            child2: Term(r.parameters[1]),
+            child3: Term(r.parameters[2]),
+            zero: r.parameters[3],
+        }
     }
 }
 
@@ -40,8 +42,7 @@ pub fn proposition_at(file: &[u8], n: Proposition) -> Record
     requires { 16 * (n.0 + 1) + 16 ≤ length file.now }
     ensures { result ≡ prop_record file.now n.0 }
 {
-    let i = n.0 as usize;
-    record_at(file, i + 1)
+    record_at(file, n.0 as usize + 1)
 }
 
 // Term t of a table that has p propositions.
@@ -49,7 +50,5 @@ pub fn term_at(file: &[u8], p: u16, t: Term) -> TermRecord
     requires { 16 * (p + t.0 + 1) + 16 ≤ length file.now }
     ensures { result ≡ as_term (record_at file.now (p + t.0 + 1)) }
 {
-    let i = p as usize;
-    let j = t.0 as usize;
-    as_term(record_at(file, i + j + 1))
+    TermRecord::from(record_at(file, p as usize + t.0 as usize + 1))
 }

@@ -2,10 +2,11 @@
 // (rule, term, serials, premises) and one for each goal (term, context length). Refused: the number and the place.
 #![tactic(auto)]
 
+use entry::check;
 use entry::rooms::{GOALS, PROPOSITIONS, TREE, WORK};
-use entry::{Mark, check};
 use show::arguments::argument_count;
 use show::input::{LONGEST, read_argument};
+use show::tree::Accepted;
 use std::io;
 use std::io::Write;
 
@@ -16,8 +17,19 @@ fn answer<W: Write>(out: &mut W, file: &[u8]) -> io::Result<()> {
     let mut props = [0u8; PROPOSITIONS];
     let mut work = [0u8; WORK];
     match check(file, &mut tree, &mut goals, &mut props, &mut work) {
-        Mark::Refused(e) => show::refused(out, e),
-        Mark::Accepted(c) => show::tree::short(out, &tree, &goals, &props, c.records, c.goals),
+        Ok(c) => {
+            let accepted = Accepted {
+                tree: &tree,
+                goals: &goals,
+                props: &props,
+                records: c.records,
+                open: c.goals,
+                serials: c.serials,
+                made: c.made,
+            };
+            write!(out, "{accepted}")
+        }
+        Err(e) => show::refused(out, e),
     }
 }
 
@@ -26,10 +38,10 @@ fn main(rt: HostRuntime) -> io::Result<()> {
         return eprintln!(rt; "usage: mark FILE");
     }
     let mut room = [0u8; LONGEST];
-    let Some(n) = read_argument(&rt, 1, &mut room) else {
+    let Some(file) = read_argument(&rt, 1, &mut room) else {
         return Ok(());
     };
     let mut out = show::output(&rt);
-    answer(&mut out, &room[..n])?;
+    answer(&mut out, file)?;
     out.flush()
 }

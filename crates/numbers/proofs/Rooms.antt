@@ -2,7 +2,6 @@
 use mathlib.Core.Path.{◌≡◌, refl, ap, ◌∙◌}
 use mathlib.Core.List.{List, [], ◌∷◌, ◌++◌}
 use Prim.Native.Nat.{ℕ, ◌≤◌}
-use native.Mathlib.Omega.{arith}
 use native.Mathlib.Nat.{min-eq_left, min-eq_right}
 use lib.ListN.{length, drop, replicate, drop_of_length-le}
 use Rattle.numbers.specs.Rooms.{cleared}
@@ -10,11 +9,6 @@ use Rattle.numbers.specs.Rooms.{cleared}
 append_nil : (l : List ℕ) → l ++ [] ≡ l
 append_nil [] = refl
 append_nil (x ∷ l) = ap (λ (t : List ℕ). x ∷ t) (append_nil l)
-
--- a fill that reached the end
-pub filled : (l room : List ℕ) (i : ℕ) → room ≡ replicate i 0 ++ drop i l → i ≡ length l → room ≡ replicate (length l) 0
-filled l room i e h =
-    e ∙ ap (λ (t : List ℕ). replicate i 0 ++ t) (drop_of_length-le l {i = i} (omega arith)) ∙ append_nil (replicate i 0) ∙ ap (λ (k : ℕ). replicate k 0) h
 
 -- the first n cleared, n being within the room, and all of it
 pub cleared_within : (n : ℕ) (l : List ℕ) → n ≤ length l → cleared n l ≡ replicate n 0 ++ drop n l

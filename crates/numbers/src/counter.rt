@@ -1,28 +1,20 @@
-// Fresh numbers, as in the original's util/counter.rs. The counter goes in by value and comes back one further.
+// Fresh numbers, as in the original's util/counter.rs.
 ghost use Rattle.std.specs.Prelude.{◌≡◌, ◌+◌, ◌<◌};
 ghost use Rattle.numbers.specs.Limits.{largest};
 
-#[derive(Clone, Copy)]
+#[derive(Clone, Copy, Debug, PartialEq, Eq)]
 pub struct Counter {
     pub count: u16,
 }
 
-#[derive(Clone, Copy)]
-pub struct Counted {
-    pub value: u16,
-    pub counter: Counter,
-}
-
 impl Counter {
-    pub fn next_value(self) -> Counted
-        requires { self.count < largest }
-        ensures { (result.value ≡ self.count) × (result.counter.count ≡ self.count + 1) }
+    // The count, which is then one further.
+    pub fn next_value(&mut self) -> u16
+        requires { self.old.count < largest }
+        ensures { (result ≡ self.old.count) × (self.new.count ≡ self.old.count + 1) }
     {
-        Counted {
-            value: self.count,
-            counter: Counter {
-                count: self.count + 1,
-            },
-        }
+        let value = self.count;
+        self.count += 1;
+        value
     }
 }

@@ -5,30 +5,19 @@ ghost use Rattle.numbers.specs.Limits.{largest};
 use super::counter::Counter;
 use super::{Name, Serial};
 
-#[derive(Clone, Copy)]
+#[derive(Clone, Copy, Debug, PartialEq, Eq)]
 pub struct Identifier {
     pub name: Name,
     pub serial: Serial,
 }
 
-#[derive(Clone, Copy)]
-pub struct Created {
-    pub identifier: Identifier,
-    pub counter: Counter,
-}
-
 // A new identifier of that name, with the counter's next serial.
-pub fn create(counter: Counter, name: Name) -> Created
-    requires { counter.count < largest }
-    ensures { (result.identifier.name ≡ name) × (result.identifier.serial.0 ≡ counter.count) × (result.counter.count ≡ counter.count + 1) }
+pub fn create(counter: &mut Counter, name: Name) -> Identifier
+    requires { counter.old.count < largest }
+    ensures { (result.name ≡ name) × (result.serial.0 ≡ counter.old.count) × (counter.new.count ≡ counter.old.count + 1) }
 {
-    let next = counter.next_value();
-    let counter = next.counter;
-    Created {
-        identifier: Identifier {
-            name,
-            serial: Serial(next.value),
-        },
-        counter,
+    Identifier {
+        name,
+        serial: Serial(counter.next_value()),
     }
 }

@@ -13,23 +13,23 @@ pub mod room;
 use record::word;
 
 // What a student calls something: a variable, an object, a predicate or a datatype. Every 16-bit number is a name.
-#[derive(Clone, Copy)]
+#[derive(Clone, Copy, Debug, PartialEq, Eq)]
 pub struct Name(pub u16);
 
 // An identifier's own number: they are counted from 0 in the order in which they are made.
-#[derive(Clone, Copy)]
+#[derive(Clone, Copy, Debug, PartialEq, Eq)]
 pub struct Serial(pub u16);
 
 // The number of a record of the propositions room, the table's records first.
-#[derive(Clone, Copy)]
+#[derive(Clone, Copy, Debug, PartialEq, Eq)]
 pub struct Proposition(pub u16);
 
 // The number of a term's record in the table.
-#[derive(Clone, Copy)]
+#[derive(Clone, Copy, Debug, PartialEq, Eq)]
 pub struct Term(pub u16);
 
 impl Name {
-    // The number that stands at two bytes of b, as on each of these types.
+    // The number that stands at two bytes of b, as on each of these types. (No trait has them: document 01 names the four constructors.)
     pub fn from_bytes(b: &[u8], at: usize) -> Self
         requires { at + 1 < length b.now }
         ensures { result.0 ≡ word_at b.now at }
@@ -85,7 +85,7 @@ impl Term {
 }
 
 // A type is a proposition or a datatype.
-#[derive(Clone, Copy)]
+#[derive(Clone, Copy, Debug, PartialEq, Eq)]
 pub enum Sort {
     Proposition(Proposition),
     Datatype(Name),

@@ -4,7 +4,7 @@ ghost use Rattle.numbers.specs.Records.{word_at, put_word, record_at, Put};
 
 // What sixteen bytes say, field by field as a proposition's record has them: an atom holds its parameters by value, `count` of
 // them. Other kinds of record read the same fields under names of their own.
-#[derive(Clone, Copy)]
+#[derive(Clone, Copy, Debug, PartialEq, Eq)]
 pub struct Record {
     pub kind: u8,
     pub count: u8,
@@ -14,25 +14,20 @@ pub struct Record {
     pub parameters: [u16; 4],
 }
 
-fn wide(b: u8) -> u16
-    ensures { (result ≡ b) × (result < 256) }
-{
-    b as u16
-}
-
 pub fn word(b: &[u8], at: usize) -> u16
     requires { at + 1 < length b.now }
     ensures { result ≡ word_at b.now at }
 {
-    wide(b[at]) + 256 * wide(b[at + 1])
+    u16::from_le_bytes([b[at], b[at + 1]])
 }
 
 pub fn put_word(b: &mut [u8], at: usize, v: u16)
     requires { at + 1 < length b.old }
     ensures { b.new ≡ put_word b.old at v }
 {
-    b[at] = (v % 256) as u8;
-    b[at + 1] = (v / 256) as u8;
+    let [low, high] = v.to_le_bytes();
+    b[at] = low;
+    b[at + 1] = high;
 }
 
 // The record at number n.
@@ -41,22 +36,18 @@ pub fn record_at(b: &[u8], n: usize) -> Record
     ensures { result ≡ record_at b.now n }
 {
     let at = 16 * n;
-    let kind = b[at];
-    let count = b[at + 1];
-    let x = word(b, at + 2);
-    let y = word(b, at + 4);
-    let z = word(b, at + 6);
-    let p = word(b, at + 8);
-    let q = word(b, at + 10);
-    let r = word(b, at + 12);
-    let s = word(b, at + 14);
     Record {
-        kind,
-        count,
-        a: x,
-        b: y,
-        c: z,
-        parameters: [p, q, r, s],
+        kind: b[at],
+        count: b[at + 1],
+        a: word(b, at + 2),
+        b: word(b, at + 4),
+        c: word(b, at + 6),
+        parameters: [
+            word(b, at + 8),
+            word(b, at + 10),
+            word(b, at + 12),
+            word(b, at + 14),
+        ],
     }
 }
 

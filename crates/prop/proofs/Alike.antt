@@ -1,11 +1,11 @@
 -- Comparison: the laws of one answer for both tests, and of propositions by their records. Assumes nothing.
 use mathlib.Core.Path.{◌≡◌, refl, ap, ap₂, sym, subst, subst⁻¹, ◌∙◌}
-use mathlib.Core.Bool.{Bool, true, false, ◌&&◌, ◌||◌, not, beq, and-eq-true_iff, and_assoc, and-false}
+use mathlib.Core.Bool.{Bool, true, false, ◌&&◌, ◌||◌, not, beq, and-eq-true_iff, and_assoc}
 use mathlib.Core.List.{List}
 use Prim.Native.Nat.{ℕ, ◌<◌, ◌≤◌}
 use native.Mathlib.Omega.{arith}
 use lib.Dec.{eqb}
-use borrow.Author.Tests.{eq-eqb, ne_eqb}
+use borrow.Author.Tests.{eq-eqb, eqb-true}
 use Rattle.numbers.specs.declared.Sort.{Sort}
 use Rattle.numbers.specs.declared.Sort.TheVariants.{Proposition, Datatype}
 use Rattle.numbers.specs.declared.Name.{Name}
@@ -15,7 +15,7 @@ use Rattle.numbers.specs.Records.{record_at}
 use Rattle.rules.specs.Prop.{Link, Quant, Prop, const, link, quant, atom, Ty, prop, datatype, same_params, same_link, same_quant, same, same_ty, eq, alpha}
 use Rattle.layout.specs.File.{PropKind, constant, linked, quantified, atomic, strange, prop_kind}
 use Rattle.prop.specs.declared.compare.Compared.{Compared}
-use Rattle.prop.specs.declared.compare.Compared.TheVariants.{Equal, Alpha, Apart}
+use Rattle.prop.specs.declared.compare.Compared.TheVariants.{Equal, Apart}
 use Rattle.prop.specs.Room.{params, node, room_at, type_at, TypeIn, room_form, Arena}
 use Rattle.prop.specs.Compare.{compared, compared_props, compared_types, is_alpha, both, same_fields}
 use Rattle.prop.proofs.Rooms.{not_strange, kind_known}
@@ -86,7 +86,7 @@ alpha_is false false h = refl
 pub alpha_types : (c : Compared) (S T : Ty) → c ≡ compared_types S T → is_alpha c ≡ alpha S T
 alpha_types c S T e = ap (λ (c : Compared). is_alpha c) e ∙ alpha_is (eq S T) (alpha S T) (eq_weaker S T)
 
--- `atoms` and `binders`
+-- `atoms`
 pub atoms_yes : (x : Bool) → x ≡ true → Equal ≡ compared x x
 unfolding compared
 atoms_yes x e = rw e
@@ -94,22 +94,6 @@ atoms_yes x e = rw e
 pub atoms_no : (x : Bool) → x ≡ false → Apart ≡ compared x x
 unfolding compared
 atoms_no x e = rw e
-
-module _ (x y D E : ℕ) where
-  abbrev binders_as : Compared
-  binders_as = compared (eqb x y && eqb D E) (eqb D E)
-
-  pub binders_apart : (D ≡ E → ⊥) → Apart ≡ binders_as
-  unfolding compared
-  binders_apart h = rw (ne_eqb D E h) (ap (λ (b : Bool). compared b false) (sym (and-false (eqb x y))))
-
-  pub binders_equal : D ≡ E → x ≡ y → Equal ≡ binders_as
-  unfolding compared
-  binders_equal h e = rw (eq-eqb D E h, eq-eqb x y e)
-
-  pub binders_alpha : D ≡ E → (x ≡ y → ⊥) → Alpha ≡ binders_as
-  unfolding compared
-  binders_alpha h e = rw (eq-eqb D E h, ne_eqb x y e)
 
 -- two parts
 both_parts : (e a f b : Bool) → (e ≡ true → a ≡ true) → (f ≡ true → b ≡ true) → both (compared e a) (compared f b) ≡ compared (e && f) (a && b)
@@ -181,8 +165,9 @@ module _ (w : List ℕ) (c a b : ℕ) (ok : Arena w c) (ac : a < c) (bc : b < c)
   unfolding compared
   yes_answer tables e = sym (ap (λ (x : Bool). compared x (same false (room_at tables w a) (room_at tables w b))) e)
 
-  pub cmp_self : a ≡ b → (tables : ℕ) → Equal ≡ answer tables a b
-  cmp_self e tables = yes_answer tables (ap (λ (x : ℕ). same true (room_at tables w a) (room_at tables w x)) (sym e) ∙ same_self true (room_at tables w a))
+  pub cmp_self : (v : Bool) → v ≡ eqb a b → v ≡ true → (tables : ℕ) → Equal ≡ answer tables a b
+  cmp_self v h q tables =
+      yes_answer tables (ap (λ (x : ℕ). same true (room_at tables w a) (room_at tables w x)) (sym (eqb-true a b (sym h ∙ q))) ∙ same_self true (room_at tables w a))
 
   module _ (r : Record) (er : r ≡ record_at w a) (s : Record) (es : s ≡ record_at w b) where
     known_a : prop_kind r.kind ≡ strange → ⊥
@@ -294,10 +279,10 @@ module _ (w : List ℕ) (S T : Sort) where
   types_right d n e f tables = rw (e, f)
 
   module _ (x y : Name) (e : S ≡ Datatype x) (f : T ≡ Datatype y) where
-    pub types_same : x.0 ≡ y.0 → (tables : ℕ) → Equal ≡ types tables
+    pub types_same : (v : Bool) → v ≡ eqb x.0 y.0 → v ≡ true → (tables : ℕ) → Equal ≡ types tables
     unfolding eq alpha same_ty compared
-    types_same h tables = rw (e, f, eq-eqb x.0 y.0 h)
+    types_same v h q tables = rw (e, f, sym h ∙ q)
 
-    pub types_apart : (x.0 ≡ y.0 → ⊥) → (tables : ℕ) → Apart ≡ types tables
+    pub types_apart : (v : Bool) → v ≡ eqb x.0 y.0 → v ≡ false → (tables : ℕ) → Apart ≡ types tables
     unfolding eq alpha same_ty compared
-    types_apart h tables = rw (e, f, ne_eqb x.0 y.0 h)
+    types_apart v h q tables = rw (e, f, sym h ∙ q)

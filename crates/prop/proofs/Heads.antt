@@ -5,6 +5,7 @@ use mathlib.Core.List.{List}
 use Prim.Native.Nat.{ℕ, zero, suc, ◌<◌}
 use native.Mathlib.Omega.{arith}
 use lib.Dec.{eqb}
+use Rattle.std.specs.Prelude.{Some, None}
 use Rattle.numbers.specs.declared.Name.{Name}
 use Rattle.numbers.specs.declared.Proposition.{Proposition as Number}
 use Rattle.numbers.specs.declared.Sort.{Sort}
@@ -14,9 +15,8 @@ use Rattle.numbers.specs.Records.{record_at}
 use Rattle.rules.specs.Prop.{Link, and, or, imp, Quant, all, ex, Origin, made, Prop, const, link, quant, prop, same_link, same_quant, same, same_ty, eq}
 use Rattle.rules.specs.Step.{Arity, Prog, on_link, on_quant}
 use Rattle.layout.specs.File.{PropKind, constant, linked, quantified, atomic, strange, prop_kind, prop_kinds}
-use Rattle.prop.specs.declared.head.Parts.TheVariants as two
-use Rattle.prop.specs.declared.head.Quantified.TheVariants as one
-use Rattle.prop.specs.Room.{origin, node, room_at, type_at, TypeIn, Arena}
+use Rattle.prop.specs.Room.{node, room_at, type_at, TypeIn, Arena}
+use Rattle.prop.specs.View.{Joins, Binds}
 use Rattle.prop.specs.Head.{Split, SplitAs, Over, OverAs}
 use Rattle.prop.proofs.Rooms.{parts_under, body_under, not_strange, room_step}
 
@@ -127,16 +127,6 @@ on_bound : {m : Arity} (q : Quant) (k : ℕ → ℕ → Prop → Prog m) (z : Pr
 unfolding on_quant
 on_bound q k z P o x D B e = ap (λ (P : Prop). on_quant q (prop P) k z) e ∙ ap (λ (b : Bool). cond b (k x D B) z) (quant_self q)
 
--- number n stands for the link of what a and b stand for; for the quantifier over what m stands for. All have smaller numbers
-pub record Joins (l : Link) (w : List ℕ) (n a b : ℕ) : Type 0 where
-  pub first : a < n
-  pub second : b < n
-  pub whole : (tables : ℕ) → room_at tables w n ≡ link (origin tables n) l (room_at tables w a) (room_at tables w b)
-
-pub record Binds (q : Quant) (w : List ℕ) (n D m : ℕ) : Type 0 where
-  pub under : m < n
-  pub whole : (tables : ℕ) → room_at tables w n ≡ quant (origin tables n) q (record_at w n).a D (room_at tables w m)
-
 -- A NUMBER TAKEN APART, from its record
 module _ (w : List ℕ) (c n : ℕ) (ok : Arena w c) (k : n < c) (r : Record) (er : r ≡ record_at w n) where
   abbrev kind_here : PropKind
@@ -198,7 +188,7 @@ module _ (w : List ℕ) (c : ℕ) (T : Sort) (n : Number) (e : T ≡ Proposition
   among = prop_in c T n e i
 
   module _ (l : Link) (q : prop_kind m ≡ linked l) where
-    pub split_both : r.kind ≡ m → SplitAs l w c T (two.Both (record { 0 = r.a }) (record { 0 = r.b }))
+    pub split_both : r.kind ≡ m → SplitAs l w c T (Some (record { left = record { 0 = r.a }; right = record { 0 = r.b } }))
     split_both h =
         let j = head_joins w c n.0 ok among r er m h l q in
         subst⁻¹ (λ (T : Sort). Split l w c T r.a r.b) e
@@ -208,12 +198,12 @@ module _ (w : List ℕ) (c : ℕ) (T : Sort) (n : Number) (e : T ≡ Proposition
           goes = λ tables a f z. on_joined l f z _ _ _ _ (j.whole tables);
         }
 
-    pub split_other : (r.kind ≡ m → ⊥) → SplitAs l w c T two.Other
+    pub split_other : (r.kind ≡ m → ⊥) → SplitAs l w c T None
     split_other h =
-        subst⁻¹ (λ (T : Sort). SplitAs l w c T two.Other) e (λ tables a f z. head_no_link w c n.0 ok among r er m h l q tables f z)
+        subst⁻¹ (λ (T : Sort). SplitAs l w c T None) e (λ tables a f z. head_no_link w c n.0 ok among r er m h l q tables f z)
 
   module _ (l : Quant) (q : prop_kind m ≡ quantified l) where
-    pub over_one : r.kind ≡ m → OverAs l w c T (one.Over (record { 0 = r.b }) (record { 0 = r.c }))
+    pub over_one : r.kind ≡ m → OverAs l w c T (Some (record { datatype = record { 0 = r.b }; body = record { 0 = r.c } }))
     over_one h =
         let j = head_binds w c n.0 ok among r er m h l q in
         subst⁻¹ (λ (T : Sort). Over l w c T r.b r.c) e
@@ -223,9 +213,9 @@ module _ (w : List ℕ) (c : ℕ) (T : Sort) (n : Number) (e : T ≡ Proposition
           goes = λ tables a f z. on_bound l f z _ _ _ _ _ (j.whole tables);
         }
 
-    pub over_other : (r.kind ≡ m → ⊥) → OverAs l w c T one.Other
+    pub over_other : (r.kind ≡ m → ⊥) → OverAs l w c T None
     over_other h =
-        subst⁻¹ (λ (T : Sort). OverAs l w c T one.Other) e (λ tables a f z. head_no_quant w c n.0 ok among r er m h l q tables f z)
+        subst⁻¹ (λ (T : Sort). OverAs l w c T None) e (λ tables a f z. head_no_quant w c n.0 ok among r er m h l q tables f z)
 
 pub truth_prop : (w : List ℕ) (c : ℕ) (T : Sort) (n : Number) → T ≡ Proposition n → Arena w c → TypeIn c T → (r : Record) → r ≡ record_at w n.0
     → (tables : ℕ) → eqb r.kind 0 ≡ eq (type_at tables w T) (prop (const made true))
@@ -233,13 +223,13 @@ unfolding eq same_ty
 truth_prop w c T n e ok i r er tables = rw e (head_truth w c n.0 ok (prop_in c T n e i) r er tables)
 
 module _ (w : List ℕ) (T : Sort) (d : Name) (e : T ≡ Datatype d) where
-  pub split_data : (l : Link) (c : ℕ) → SplitAs l w c T two.Other
+  pub split_data : (l : Link) (c : ℕ) → SplitAs l w c T None
   unfolding on_link
-  split_data l c = subst⁻¹ (λ (T : Sort). SplitAs l w c T two.Other) e (λ tables a f z. refl)
+  split_data l c = subst⁻¹ (λ (T : Sort). SplitAs l w c T None) e (λ tables a f z. refl)
 
-  pub over_data : (q : Quant) (c : ℕ) → OverAs q w c T one.Other
+  pub over_data : (q : Quant) (c : ℕ) → OverAs q w c T None
   unfolding on_quant
-  over_data q c = subst⁻¹ (λ (T : Sort). OverAs q w c T one.Other) e (λ tables a f z. refl)
+  over_data q c = subst⁻¹ (λ (T : Sort). OverAs q w c T None) e (λ tables a f z. refl)
 
   pub truth_data : (tables : ℕ) → false ≡ eq (type_at tables w T) (prop (const made true))
   unfolding eq same_ty

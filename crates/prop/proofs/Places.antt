@@ -1,8 +1,8 @@
 -- An atom's four places: read, tested, changed and written. Assumes nothing.
 use mathlib.Core.Path.{◌≡◌, refl, ap, sym, subst⁻¹, ◌∙◌}
-use mathlib.Core.Bool.{Bool, true, false, ◌&&◌, ◌||◌, not, false≢true, and-true}
+use mathlib.Core.Bool.{Bool, true, false, ◌&&◌, ◌||◌, not, false≢true, and-true, and_assoc}
 use mathlib.Core.List.{List, [], ◌∷◌, map}
-use Prim.Native.Nat.{ℕ, zero, suc, ◌+◌, ◌*◌, ◌^◌, ◌<◌, ◌≤◌}
+use Prim.Native.Nat.{ℕ, zero, suc, min, ◌+◌, ◌*◌, ◌/◌, ◌%◌, ◌^◌, ◌<◌, ◌≤◌}
 use native.Mathlib.Omega.{arith}
 use lib.ListN.{get_or, take}
 use lib.Seq.{take-nil}
@@ -13,78 +13,27 @@ use Rattle.rules.specs.Prop.{Param, free, ser, bound, each_param}
 use Rattle.prop.specs.declared.atom.Parameter.{Parameter}
 use Rattle.prop.specs.declared.atom.Parameter.TheVariants.{Free, Identifier, Bound, Unused}
 use Rattle.prop.specs.Room.{param, kind_0, kind_1, kind_2, kind_3, params}
-use Rattle.prop.specs.Atom.{coded, place, kind_at, number_at, parameter_at, passes, becomes, kind_in, number_in, with_parameters}
+use Rattle.prop.specs.Atom.{place, kind_at, number_at, parameter_at, passes, becomes, kind_in, number_in, with_parameters}
 use Rattle.prop.proofs.Atoms.{Atom}
 
 -- `kind_at` and `number_at`, in the order of their code
-module _ (r : Record) (i : ℕ) where
-  pub kind_at_0 : i ≡ 0 → kind_0 r.b ≡ kind_at r i
-  kind_at_0 e = rw e
+pub kind_at_place : (r : Record) (i m : ℕ) → m ≡ min i 3 → r.b / 2 ^ (2 * m) % 4 ≡ kind_at r i
+kind_at_place r zero m e = ap (λ (j : ℕ). r.b / 2 ^ (2 * j) % 4) e ∙ omega arith
+kind_at_place r (suc zero) m e = ap (λ (j : ℕ). r.b / 2 ^ (2 * j) % 4) e
+kind_at_place r (suc (suc zero)) m e = ap (λ (j : ℕ). r.b / 2 ^ (2 * j) % 4) e
+kind_at_place r (suc (suc (suc i))) m e = let three : m ≡ 3 = omega arith in ap (λ (j : ℕ). r.b / 2 ^ (2 * j) % 4) three
 
-  pub kind_at_1 : i ≡ 1 → kind_1 r.b ≡ kind_at r i
-  kind_at_1 e = rw e
-
-  pub kind_at_2 : i ≡ 2 → kind_2 r.b ≡ kind_at r i
-  kind_at_2 e = rw e
-
-pub kind_at_3 : (r : Record) (i : ℕ) → (i ≡ 0 → ⊥) → (i ≡ 1 → ⊥) → (i ≡ 2 → ⊥) → kind_3 r.b ≡ kind_at r i
-kind_at_3 r zero a b c = absurd (a refl)
-kind_at_3 r (suc zero) a b c = absurd (b refl)
-kind_at_3 r (suc (suc zero)) a b c = absurd (c refl)
-kind_at_3 r (suc (suc (suc i))) a b c = refl
-
-pub number_at_3 : (r : Record) (i : ℕ) → (i ≡ 0 → ⊥) → (i ≡ 1 → ⊥) → (i ≡ 2 → ⊥) → get_or r.parameters 3 0 ≡ number_at r i
-number_at_3 r zero a b c = absurd (a refl)
-number_at_3 r (suc zero) a b c = absurd (b refl)
-number_at_3 r (suc (suc zero)) a b c = absurd (c refl)
-number_at_3 r (suc (suc (suc i))) a b c = refl
+pub number_at_place : (r : Record) (i m k : ℕ) → k ≡ m → m ≡ min i 3 → get_or r.parameters k 0 ≡ number_at r i
+number_at_place r zero m k e f = ap (λ (j : ℕ). get_or r.parameters j 0) (omega arith)
+number_at_place r (suc zero) m k e f = ap (λ (j : ℕ). get_or r.parameters j 0) (omega arith)
+number_at_place r (suc (suc zero)) m k e f = ap (λ (j : ℕ). get_or r.parameters j 0) (omega arith)
+number_at_place r (suc (suc (suc i))) m k e f = ap (λ (j : ℕ). get_or r.parameters j 0) (omega arith)
 
 -- `parameter_at`
 module _ (r : Record) (i : ℕ) where
   pub at_unused : r.count ≤ i → Unused ≡ parameter_at r i
   unfolding parameter_at
   at_unused h = sym (ap (λ (u : Bool). place u (param (kind_at r i) (number_at r i))) (le-ltb i r.count h))
-
-  module _ (u : i < r.count) (k x : ℕ) (ek : k ≡ kind_at r i) (ex : x ≡ number_at r i) where
-    at_used : (y : Param) → param k x ≡ y → coded y ≡ parameter_at r i
-    unfolding parameter_at
-    at_used y e =
-        ap (λ (y : Param). coded y) (sym e)
-        ∙ (λ j. coded (param (ek j) (ex j)))
-        ∙ sym (ap (λ (u : Bool). place u (param (kind_at r i) (number_at r i))) (lt-ltb i r.count u))
-
-    pub at_free : k ≡ 0 → Free (record { 0 = x }) ≡ parameter_at r i
-    unfolding param
-    at_free e = at_used (free x) (rw e)
-
-    pub at_identifier : k ≡ 1 → Identifier (record { 0 = x }) ≡ parameter_at r i
-    unfolding param
-    at_identifier e = at_used (ser x) (rw e)
-
-    pub at_bound : (k ≡ 0 → ⊥) → (k ≡ 1 → ⊥) → Bound x ≡ parameter_at r i
-    unfolding param
-    at_bound a b = at_used (bound x) (go k a b)
-      where
-        go : (k : ℕ) → (k ≡ 0 → ⊥) → (k ≡ 1 → ⊥) → param k x ≡ bound x
-        go zero a b = absurd (a refl)
-        go (suc zero) a b = absurd (b refl)
-        go (suc (suc k)) a b = refl
-
--- `with_parameters`
-pub writes : (r : Record) (p q s t : Parameter) (j k l m w x y z : ℕ)
-    → (j ≡ kind_in p) × (j < 3) → (k ≡ kind_in q) × (k < 3) → (l ≡ kind_in s) × (l < 3) → (m ≡ kind_in t) × (m < 3)
-    → w ≡ number_in p → x ≡ number_in q → y ≡ number_in s → z ≡ number_in t
-    → record { kind = r.kind; count = r.count; a = r.a; b = j + 4 * k + 16 * l + 64 * m; c = r.c; parameters = w ∷ x ∷ y ∷ z ∷ [] } ≡ with_parameters r p q s t
-unfolding with_parameters
-writes r p q s t j k l m w x y z ej ek el em ew ex ey ez =
-    λ i. record {
-      kind = r.kind;
-      count = r.count;
-      a = r.a;
-      b = ej.0 i + 4 * ek.0 i + 16 * el.0 i + 64 * em.0 i;
-      c = r.c;
-      parameters = ew i ∷ ex i ∷ ey i ∷ ez i ∷ [];
-    }
 
 -- A TEST of all four places is one of the parameters
 passes_place : (t : Param → Bool) (u : Bool) (x : Param) → passes t (place u x) ≡ (not u || t x)
@@ -121,11 +70,13 @@ each_place t r =
 pub all_pass : (t : Param → Bool) (r : Record) (p q s u : Parameter) (a b c d : Bool)
     → p ≡ parameter_at r 0 → q ≡ parameter_at r 1 → s ≡ parameter_at r 2 → u ≡ parameter_at r 3
     → a ≡ passes t p → b ≡ passes t q → c ≡ passes t s → d ≡ passes t u
-    → (a && (b && (c && d))) ≡ each_param t (params r)
+    → (((a && b) && c) && d) ≡ each_param t (params r)
 all_pass t r p q s u a b c d ep eq es eu ea eb ec ed =
     let at : (o : Bool) (p : Parameter) (i : ℕ) → o ≡ passes t p → p ≡ parameter_at r i → o ≡ passes t (parameter_at r i) =
     λ o p i e f. e ∙ ap (λ (p : Parameter). passes t p) f in
-    (λ i. at a p 0 ea ep i && (at b q 1 eb eq i && (at c s 2 ec es i && at d u 3 ed eu i))) ∙ each_place t r
+    and_assoc (a && b) c d
+    ∙ and_assoc a b (c && d)
+    ∙ (λ i. at a p 0 ea ep i && (at b q 1 eb eq i && (at c s 2 ec es i && at d u 3 ed eu i))) ∙ each_place t r
 
 -- A CHANGE of a place is one of its parameter
 becomes_place : (h : Param → Param) (u : Bool) (x : Param) → becomes h (place u x) ≡ place u (h x)

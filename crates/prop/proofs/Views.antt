@@ -10,7 +10,8 @@ use Rattle.rules.specs.Prop.{Link, and, or, imp, Quant, all, ex, Prop, const, at
 use Rattle.layout.specs.File.{PropKind, constant, linked, quantified, atomic, prop_kind, prop_kinds}
 use Rattle.prop.specs.Room.{params, origin, node, room_at, Arena}
 use Rattle.prop.proofs.Rooms.{kind_known, room_step}
-use Rattle.prop.proofs.Heads.{Joins, Binds, head_joins, head_binds}
+use Rattle.prop.specs.View.{Joins, Binds, ConstantAt, LinkAt, QuantifierAt, AtomAt}
+use Rattle.prop.proofs.Heads.{head_joins, head_binds}
 
 pub kind_constant : (k : ℕ) → k < 2 → (b : Bool) × (prop_kind k ≡ constant b)
 unfolding prop_kind prop_kinds
@@ -65,6 +66,19 @@ module _ (w : List ℕ) (c n : ℕ) (ok : Arena w c) (k : n < c) (r : Record) (e
   pub at_atomic : 7 ≤ r.kind → Stands (λ tables. atom (origin tables n) r.a (params r))
   unfolding node
   at_atomic g = stands atomic (kind_atomic r.kind g (subst⁻¹ (λ (s : Record). s.kind < 8) er (kind_known (ok.each n k))))
+
+  -- `view_at`, in the order of its code
+  pub view_constant : r.kind < 2 → ConstantAt w n
+  view_constant h = let v = at_constant h in record { truth = v.0; whole = v.1 }
+
+  pub view_link : 2 ≤ r.kind → r.kind < 5 → LinkAt w n r.a r.b
+  view_link g h = let v = at_linked g h in record { link = v.0; joins = v.1 }
+
+  pub view_quantifier : 5 ≤ r.kind → r.kind < 7 → QuantifierAt w n r.c
+  view_quantifier g h = let v = at_quantified g h in record { quantifier = v.0; datatype = r.b; binds = v.1 }
+
+  pub view_atom : 7 ≤ r.kind → AtomAt w n r
+  view_atom h = record { whole = at_atomic h }
 
   -- its children, for a call: below the measure t, and in the room
   module _ (lo : 2 ≤ r.kind) (hi : r.kind < 5) where

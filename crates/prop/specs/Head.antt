@@ -1,5 +1,5 @@
 -- A type taken apart at its head: what the answers of `head` say of the rules' way of doing it. Assumes nothing.
-use Rattle.std.specs.Prelude.{◌≡◌, List, ℕ, ◌<◌}
+use Rattle.std.specs.Prelude.{◌≡◌, List, ℕ, ◌<◌, Option, Some, None}
 use Rattle.numbers.specs.declared.Sort.{Sort}
 use Rattle.rules.specs.Prop.{Link, and, or, imp, Quant, all, ex, Prop}
 use Rattle.rules.specs.Step.{Arity, Prog, on_link, on_quant}
@@ -8,9 +8,7 @@ use Rattle.prop.specs.declared.head.Link.TheVariants as links
 use Rattle.prop.specs.declared.head.Quant.{Quant as QuantWord}
 use Rattle.prop.specs.declared.head.Quant.TheVariants as quants
 use Rattle.prop.specs.declared.head.Parts.{Parts}
-use Rattle.prop.specs.declared.head.Parts.TheVariants as two
-use Rattle.prop.specs.declared.head.Quantified.{Quantified}
-use Rattle.prop.specs.declared.head.Quantified.TheVariants as one
+use Rattle.prop.specs.declared.head.Bound.{Bound}
 use Rattle.prop.specs.Room.{room_at, type_at}
 
 -- the code's words for the rules' heads
@@ -32,9 +30,9 @@ pub record Split (h : Link) (ps : List ℕ) (c : ℕ) (T : Sort) (a b : ℕ) : T
 abbrev pub Unsplit : Link → List ℕ → Sort → Type 0
 Unsplit h ps T = (tables : ℕ) (n : Arity) (k : Prop → Prop → Prog n) (z : Prog n) → on_link h (type_at tables ps T) k z ≡ z
 
-abbrev pub SplitAs : Link → List ℕ → ℕ → Sort → Parts → Type 0
-SplitAs h ps c T (two.Both a b) = Split h ps c T a.0 b.0
-SplitAs h ps c T two.Other = Unsplit h ps T
+abbrev pub SplitAs : Link → List ℕ → ℕ → Sort → Option Parts → Type 0
+SplitAs h ps c T (Some p) = Split h ps c T p.left.0 p.right.0
+SplitAs h ps c T None = Unsplit h ps T
 
 -- the same of a quantifier: the object's name, which no rule uses, the datatype, the body
 pub record Over (q : Quant) (ps : List ℕ) (c : ℕ) (T : Sort) (D m : ℕ) : Type 0 where
@@ -45,6 +43,6 @@ pub record Over (q : Quant) (ps : List ℕ) (c : ℕ) (T : Sort) (D m : ℕ) : T
 abbrev pub NotOver : Quant → List ℕ → Sort → Type 0
 NotOver q ps T = (tables : ℕ) (n : Arity) (k : ℕ → ℕ → Prop → Prog n) (z : Prog n) → on_quant q (type_at tables ps T) k z ≡ z
 
-abbrev pub OverAs : Quant → List ℕ → ℕ → Sort → Quantified → Type 0
-OverAs q ps c T (one.Over D m) = Over q ps c T D.0 m.0
-OverAs q ps c T one.Other = NotOver q ps T
+abbrev pub OverAs : Quant → List ℕ → ℕ → Sort → Option Bound → Type 0
+OverAs q ps c T (Some b) = Over q ps c T b.datatype.0 b.body.0
+OverAs q ps c T None = NotOver q ps T

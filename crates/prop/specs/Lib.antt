@@ -1,4 +1,5 @@
 pub mod Room
+pub mod View
 pub mod Atom
 pub mod Head
 pub mod Size

@@ -1,8 +1,6 @@
 -- A size counted with a budget. Assumes nothing.
-use Rattle.std.specs.Prelude.{cond, ℕ, leb}
-use Rattle.prop.specs.declared.size.Nodes.{Nodes}
-use Rattle.prop.specs.declared.size.Nodes.TheVariants.{Within, Over}
+use Rattle.std.specs.Prelude.{cond, ℕ, leb, Option, Some, None}
 
 -- the size, where it is at most what is left
-unfoldable pub counted : (size left : ℕ) → Nodes
-counted size left = cond (leb size left) (Within size) Over
+unfoldable pub counted : (size left : ℕ) → Option ℕ
+counted size left = cond (leb size left) (Some size) None

@@ -19,27 +19,17 @@ pub enum Parameter {
 fn kind_at(r: Record, i: u8) -> u16
     ensures { result ≡ kind_at r i }
 {
-    let b = r.b;
-    match i {
-        0 => b % 4,
-        1 => b / 4 % 4,
-        2 => b / 16 % 4,
-        _ => b / 64 % 4,
-    }
+    (r.b >> (2 * i.min(3))) % 4
 }
 
 fn number_at(r: Record, i: u8) -> u16
     ensures { result ≡ number_at r i }
 {
-    match i {
-        0 => r.parameters[0],
-        1 => r.parameters[1],
-        2 => r.parameters[2],
-        _ => r.parameters[3],
-    }
+    r.parameters[usize::from(i.min(3))]
 }
 
 // Place i of the atom r: 0 to 3.
+#[tactic(auto, unfolding(crate::specs::Atom::parameter_at, crate::specs::Room::param))]
 pub fn parameter_at(r: Record, i: u8) -> Parameter
     ensures { result ≡ parameter_at r i }
 {
@@ -59,41 +49,40 @@ pub fn parameter_at(r: Record, i: u8) -> Parameter
 pub fn is_at(r: Record, i: u8, s: Serial) -> bool
     ensures { result ≡ not (passes (other s.0) (parameter_at r i)) }
 {
-    (i < r.count) & ((kind_at(r, i) == 1) & (number_at(r, i) == s.0))
+    (i < r.count) & (kind_at(r, i) == 1) & (number_at(r, i) == s.0)
 }
 
-fn kind_of(p: Parameter) -> u16
-    ensures { (result ≡ kind_in p) × (result < 3) }
-{
-    match p {
-        Parameter::Free(_) => 0,
-        Parameter::Identifier(_) => 1,
-        Parameter::Bound(_) => 2,
-        Parameter::Unused => 0,
+impl Parameter {
+    fn kind(self) -> u16
+        ensures { (result ≡ kind_in self) × (result < 3) }
+    {
+        match self {
+            Parameter::Free(_) | Parameter::Unused => 0,
+            Parameter::Identifier(_) => 1,
+            Parameter::Bound(_) => 2,
+        }
     }
-}
 
-fn number_of(p: Parameter) -> u16
-    ensures { result ≡ number_in p }
-{
-    match p {
-        Parameter::Free(x) => x.0,
-        Parameter::Identifier(i) => i.0,
-        Parameter::Bound(k) => k,
-        Parameter::Unused => 0,
+    fn number(self) -> u16
+        ensures { result ≡ number_in self }
+    {
+        match self {
+            Parameter::Free(x) => x.0,
+            Parameter::Identifier(i) => i.0,
+            Parameter::Bound(k) => k,
+            Parameter::Unused => 0,
+        }
     }
 }
 
 // The atom r with these in its four places.
+#[tactic(auto, unfolding(crate::specs::Atom::with_parameters))]
 pub fn with_parameters(r: Record, p: Parameter, q: Parameter, s: Parameter, t: Parameter) -> Record
     ensures { result ≡ with_parameters r p q s t }
 {
     Record {
-        kind: r.kind,
-        count: r.count,
-        a: r.a,
-        b: kind_of(p) + 4 * kind_of(q) + 16 * kind_of(s) + 64 * kind_of(t),
-        c: r.c,
-        parameters: [number_of(p), number_of(q), number_of(s), number_of(t)],
+        b: p.kind() + 4 * q.kind() + 16 * s.kind() + 64 * t.kind(),
+        parameters: [p.number(), q.number(), s.number(), t.number()],
+        ..r
     }
 }

@@ -4,7 +4,9 @@
 
 pub mod atom;
 pub mod compare;
+pub mod each;
 pub mod head;
 pub mod holds;
 pub mod node;
+pub mod propositions;
 pub mod size;

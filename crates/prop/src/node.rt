@@ -1,8 +1,10 @@
-// A record of the propositions room, and the kinds of propositions.
+// A record of the propositions room, and the kinds of propositions. The kinds stay bytes: document 01's form matches the kind byte, with ranges. Walks
+// over the trees match a `View`.
 ghost use Rattle.std.specs.Prelude.{◌≡◌, ◌<◌};
 ghost use Rattle.numbers.specs.Records.{record_at};
-ghost use Rattle.prop.specs.Room.{Arena};
+ghost use Rattle.prop.specs.View.{ViewIs};
 
+use super::propositions::Propositions;
 use numbers::Proposition;
 use numbers::record::{Record, record_at};
 
@@ -22,12 +24,34 @@ pub const EXISTS: u8 = 6;
 
 pub const ATOM: u8 = 7;
 
-// The record of proposition n, one of the first `count`.
-pub fn node_at(props: &[u8], count: u16, n: Proposition) -> Record
-    requires arena { Arena props.now count }
-    requires n_lt_count { n.0 < count }
-    ensures { result ≡ record_at props.now n.0 }
-{
-    let i = n.0 as usize;
-    record_at(props, i)
+// What a walk over the trees asks of a proposition: the parts below it, or an atom's record.
+#[derive(Clone, Copy)]
+pub enum View {
+    Constant,
+    Link(Proposition, Proposition),
+    Quantifier(Proposition),
+    Atom(Record),
+}
+
+impl Propositions<'_> {
+    // The record of proposition n, one of the first `count`.
+    pub fn at(self, n: Proposition) -> Record
+        requires { n.0 < self.count }
+        ensures { result ≡ record_at self.entry.room.now n.0 }
+    {
+        record_at(self.room, usize::from(n.0))
+    }
+
+    pub fn view_at(self, n: Proposition) -> View
+        requires { n.0 < self.count }
+        ensures { ViewIs self.entry.room.now n.0 result }
+    {
+        let r = self.at(n);
+        match r.kind {
+            TRUE..=FALSE => View::Constant,
+            AND..=IMPL => View::Link(Proposition(r.a), Proposition(r.b)),
+            FOR_ALL..=EXISTS => View::Quantifier(Proposition(r.c)),
+            ATOM..=255 => View::Atom(r),
+        }
+    }
 }

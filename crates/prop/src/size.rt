@@ -1,46 +1,34 @@
 // How many nodes a proposition has as a tree, counted with a budget.
 ghost use Rattle.std.specs.Prelude.{◌≡◌, ℕ, ◌<◌};
 ghost use Rattle.rules.specs.Prop.{size};
-ghost use Rattle.prop.specs.Room.{room_at, Arena};
+ghost use Rattle.prop.specs.Room.{room_at};
 ghost use Rattle.prop.specs.Size.{counted};
 
-use super::node::{AND, EXISTS, FOR_ALL, IMPL, node_at};
+use super::node::View;
+use super::propositions::Propositions;
 use numbers::Proposition;
 
-#[derive(Clone, Copy)]
-pub enum Nodes {
-    Within(u16),
-    Over,
-}
-
-// The nodes of proposition n, if there are at most `left`. Made nodes are shared, so a tree's size may pass any 16-bit number: past the budget
-// nothing is counted, and no more than `left` nodes are visited.
-pub fn nodes_of(props: &[u8], count: u16, n: Proposition, left: u16) -> Nodes
-    requires arena { Arena props.now count }
-    requires n_lt_count { n.0 < count }
-    ensures { (tables : ℕ) → result ≡ counted (size (room_at tables props.now n.0)) left }
-{
-    if left == 0 {
-        return Nodes::Over;
-    }
-    let r = node_at(props, count, n);
-    let kind = r.kind;
-    match kind {
-        AND..=IMPL => {
-            let Nodes::Within(a) = nodes_of(props, count, Proposition(r.a), left - 1) else {
-                return Nodes::Over;
-            };
-            let Nodes::Within(b) = nodes_of(props, count, Proposition(r.b), left - 1 - a) else {
-                return Nodes::Over;
-            };
-            Nodes::Within(1 + a + b)
+impl Propositions<'_> {
+    // The nodes of proposition n, if there are at most `left`. Made nodes are shared, so a tree's size may pass any 16-bit number: past the budget
+    // nothing is counted, and no more than `left` nodes are visited.
+    pub fn nodes_of(self, n: Proposition, left: u16) -> Option<u16>
+        requires { n.0 < self.count }
+        ensures { (tables : ℕ) → result ≡ counted (size (room_at tables self.entry.room.now n.0)) left }
+    {
+        if left == 0 {
+            return None;
         }
-        FOR_ALL..=EXISTS => {
-            let Nodes::Within(a) = nodes_of(props, count, Proposition(r.c), left - 1) else {
-                return Nodes::Over;
-            };
-            Nodes::Within(1 + a)
+        match self.view_at(n) {
+            View::Constant | View::Atom(_) => Some(1),
+            View::Link(a, b) => {
+                let x = self.nodes_of(a, left - 1)?;
+                let y = self.nodes_of(b, left - 1 - x)?;
+                Some(1 + x + y)
+            }
+            View::Quantifier(body) => {
+                let x = self.nodes_of(body, left - 1)?;
+                Some(1 + x)
+            }
         }
-        _ => Nodes::Within(1),
     }
 }

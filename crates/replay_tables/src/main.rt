@@ -7,29 +7,21 @@ use std::io;
 use std::io::{Read, Write};
 use table::Purpose;
 
-fn purpose_of(mode: u8) -> Purpose {
-    match mode {
-        0 => Purpose::Check,
-        1..=255 => Purpose::Filling,
+// A check where the input ends, too.
+fn next_purpose<R: Read>(from: &mut R) -> Purpose {
+    match read_table(from, &mut [0], 1) {
+        [] | [0] => Purpose::Check,
+        _ => Purpose::Filling,
     }
-}
-
-fn next_mode<R: Read>(from: &mut R) -> u8 {
-    let mut mode = [0u8; 1];
-    read_table(from, &mut mode, 1);
-    mode[0]
 }
 
 fn replay<R: Read, W: Write>(from: &mut R, out: &mut W) -> io::Result<()> {
     let mut room = [0u8; LONGEST];
     let mut work = [0u8; table::ROOM];
-    let length = next_word(from);
-    let mode = next_mode(from);
-    let got = read_table(from, &mut room, length);
-    show::answer(
-        out,
-        table::test_table(&room[..got], &mut work, purpose_of(mode)),
-    )
+    let size = next_word(from);
+    let purpose = next_purpose(from);
+    let file = read_table(from, &mut room, size);
+    show::answer(out, table::test_table(file, &mut work, purpose))
 }
 
 fn main(rt: HostRuntime) -> io::Result<()> {

@@ -1,9 +1,11 @@
 -- Abort, piece by piece. Assumes nothing.
+use Rattle.step.specs.declared.inference.Inference.TheVariants as inference
 use mathlib.Core.Path.{◌≡◌, refl, ap, sym, ◌∙◌}
 use mathlib.Core.Bool.{false}
 use mathlib.Core.List.{List, []}
 use Prim.Native.Nat.{ℕ, ◌+◌}
 use native.Mathlib.Omega.{arith}
+use Rattle.std.specs.declared.option.Option.TheVariants.{Some, None}
 use Rattle.numbers.specs.declared.Name.{Name}
 use Rattle.numbers.specs.declared.Proposition.{Proposition}
 use Rattle.numbers.specs.declared.Sort.{Sort}
@@ -16,8 +18,7 @@ use Rattle.rules.specs.State.{limit}
 use Rattle.rules.specs.Term.{Single}
 use Rattle.rules.specs.Step.{check, refusal, done, Prog, refuse, make, ask, obey, on_prop, answered}
 use Rattle.rules.specs.Rules.{one, by, abort_step, single_step}
-use Rattle.arena.specs.declared.make.Made.{Made}
-use Rattle.arena.specs.declared.make.Made.TheVariants.{At, Full}
+use Rattle.arena.specs.declared.copy.Copied.{Copied}
 use Rattle.arena.specs.Make.{ConstantIs}
 use Rattle.prop.specs.Room.{TypeIn}
 use Rattle.step.specs.declared.state.State.{State}
@@ -36,7 +37,7 @@ use Rattle.rule.proofs.Going.{says, asks, answer_stands, turned}
 
 -- ITS FALSE is made, and the body is asked
 module _ {l : List ℕ} {R : Rooms} {k : Place} {st : State} (rd : Ready l R k.0 st) (wanted : Sort) (among : TypeIn (count_of l st) wanted) (kind : (term_record l k.0).kind ≡ 10)
-    (count : ℕ) (ec : count ≡ count_of l st) (free : ℕ) (el : free + st.made ≡ limit) (ps : List ℕ) (o : Made) (is : ConstantIs false R.props count free ps o) where
+    (count : ℕ) (ec : count ≡ count_of l st) (free : ℕ) (el : free + st.made ≡ limit) (ps : List ℕ) where
   abbrev c₁ : ℕ
   c₁ = (term_record l k.0).child1.0
 
@@ -50,17 +51,17 @@ module _ {l : List ℕ} {R : Rooms} {k : Place} {st : State} (rd : Ready l R k.0
   unfolding single_step abort_step
   begun = doing_start _ (kid_at l c₁, tt) rd (single_begins l k.0 R (check A) st Single.abort c₁ (is_abort rd.base.table rd.here kind))
 
-  pub abort_full : o ≡ Full → (r : Refusal) → r ≡ record { number = 30; place = k.0 } → Refuses (run_of l R k.0 (check A) st) r
-  abort_full q r er =
+  pub abort_full : ConstantIs false R.props count free ps None → (r : Refusal) → r ≡ record { number = 30; place = k.0 } → Refuses (run_of l R k.0 (check A) st) r
+  abort_full is r er =
       says 30 k.0 er
-      (doing_stop (refusal 30 k.0) begun (full_stops l R.props ps count free (inner st) (λ t. 1) (λ t. const made false) o ec el is q k.0 _ (kid_at l c₁, tt)))
+      (doing_stop (refusal 30 k.0) begun (full_stops l R.props ps count free (inner st) (λ t. 1) (λ t. const made false) None ec el is refl k.0 _ (kid_at l c₁, tt)))
 
-  pub abort_begins : (m : Proposition) (e : ℕ) → o ≡ At m e → (g : State) → GrownTo st count e g
-      → Asked l R (record { term = k; want = want.Check wanted; start = st }) (rooms R.tree R.goals ps R.work) left.Aborts c₁ (want.Check (sort.Proposition m)) (inner g)
+  pub abort_begins : (o : Copied) → ConstantIs false R.props count free ps (Some o) → (g : State) → GrownTo st count o.count g
+      → Asked l R (record { term = k; want = want.Check wanted; start = st }) (rooms R.tree R.goals ps R.work) left.Aborts c₁ (want.Check (sort.Proposition o.at)) (inner g)
   unfolding answered
-  abort_begins m e q g eg =
-      let makes : MadeFor l R.props ps (inner st) (inner g) 1 (const made false) m =
-      made_for l R.props ps count free (inner st) (λ t. 1) (λ t. const made false) o ec el is (inner g) m e q (eg.0, ap (λ (n : ℕ). n + 1) eg.1, eg.2, eg.3, eg.4, eg.5) in
+  abort_begins o is g eg =
+      let makes : MadeFor l R.props ps (inner st) (inner g) 1 (const made false) o.at =
+      made_for l R.props ps count free (inner st) (λ t. 1) (λ t. const made false) (Some o) ec el is (inner g) o refl (eg.0, ap (λ (n : ℕ). n + 1) eg.1, eg.2, eg.3, eg.4, eg.5) in
       asks rd among
       (doing_same (ap asking (sym makes.stands.means))
       (doing_step _ 0 begun (making_left R makes.making) (making_made makes.making) (making_serials makes.making) (made_goes makes k.0 _ (kid_at l c₁, tt))))
@@ -84,6 +85,6 @@ module _ {l : List ℕ} {R₀ : Rooms} {f : Rule} {R : Rooms} {t : Sort} {s : St
   unfolding on_prop obey
   aborts_data d e r er = says 13 k er (doing_stop (refusal 13 k) (told (sort.Datatype d) e) refl)
 
-  pub aborts_by : (p : Proposition) → found ≡ sort.Proposition p → Resumed l R₀ f R (left.By 10 1) t s
+  pub aborts_by : (p : Proposition) → found ≡ sort.Proposition p → Resumed l R₀ f R (left.By inference.FalsumElim 1) t s
   unfolding on_prop
   aborts_by p e = turned a a.stands (told (sort.Proposition p) e) (omega arith) a.holds tt

@@ -1,8 +1,12 @@
 -- Application, piece by piece. Assumes nothing.
+use Rattle.step.specs.declared.inference.Inference.TheVariants as inference
 use mathlib.Core.Path.{◌≡◌, refl, ap, sym, subst, ◌∙◌}
 use mathlib.Core.List.{List, []}
 use Prim.Native.Nat.{ℕ, ◌+◌}
 use native.Mathlib.Omega.{arith}
+use Rattle.std.specs.declared.option.Option.TheVariants.{Some, None}
+use Rattle.std.specs.declared.result.Result.{Result}
+use Rattle.std.specs.declared.result.Result.TheVariants.{Ok, Err}
 use Rattle.numbers.specs.declared.Name.{Name}
 use Rattle.numbers.specs.declared.Proposition.{Proposition}
 use Rattle.numbers.specs.declared.Serial.{Serial}
@@ -19,18 +23,13 @@ use Rattle.rules.specs.Step.{Want as Mode, synth, check, refusal, done, Prog, as
 use Rattle.rules.specs.Rules.{one, by, app_synth, app_step, double_step, applying}
 use Rattle.prop.specs.Room.{room_at}
 use Rattle.prop.specs.declared.head.Parts.{Parts}
-use Rattle.prop.specs.declared.head.Parts.TheVariants as parts
-use Rattle.prop.specs.declared.head.Quantified.{Quantified}
-use Rattle.prop.specs.declared.head.Quantified.TheVariants as quantified
-use Rattle.arena.specs.declared.make.Made.{Made}
-use Rattle.arena.specs.declared.make.Made.TheVariants.{At, Full}
+use Rattle.prop.specs.declared.head.Bound.{Bound}
+use Rattle.arena.specs.declared.copy.Copied.{Copied}
 use Rattle.arena.specs.Make.{PutIs}
 use Rattle.step.specs.declared.state.State.{State}
 use Rattle.step.specs.declared.state.Want.{Want}
 use Rattle.step.specs.declared.state.Want.TheVariants as want
-use Rattle.step.specs.declared.open.Object.{Object}
-use Rattle.step.specs.declared.open.Object.TheVariants as object
-use Rattle.prop.specs.Head.{Split, Unsplit, SplitAs, Over, NotOver, OverAs}
+use Rattle.prop.specs.Head.{Split, Unsplit, Over, NotOver}
 use Rattle.step.specs.Rooms.{Rooms, rooms, reads, ctx_of, st_of, count_of, inner}
 use Rattle.step.specs.Modes.{mode}
 use Rattle.step.specs.Steps.{ObjectAs}
@@ -75,32 +74,33 @@ module _ {l : List ℕ} {R₀ : Rooms} {f : Rule} {R : Rooms} {t : Sort} {s : St
 
   module _ (count : ℕ) (ec : count ≡ count_of l s) where
     -- of an Impl
-    pub argument_asks : (sp : Parts) → SplitAs imp R.props count t sp → (x y : Proposition) → sp ≡ parts.Both x y → Asked l R₀ f R (left.Concludes y) c₂ (want.Check (sort.Proposition x)) s
-    argument_asks sp is x y e =
-        let split : Split imp R.props count t x.0 y.0 = subst (SplitAs imp R.props count t) e is in
+    pub argument_asks : (o : Parts) → Split imp R.props count t o.left.0 o.right.0 → Asked l R₀ f R (left.Concludes o.right) c₂ (want.Check (sort.Proposition o.left)) s
+    argument_asks o split =
         asks a.begun a.wants (doing_same (split.goes (props l) one _ _) headed) a.holds.2 a.fits (omega (arith, split.second, ec), omega (arith, a.holds.1), a.holds.0) a.others (omega (arith, split.first, ec))
 
     -- of a ForAll
-    module _ (bare : Unsplit imp R.props t) (sp : Quantified) (is : OverAs all R.props count t sp) (r : TermRecord) (er : r ≡ term_record l k) where
+    module _ (bare : Unsplit imp R.props t) (r : TermRecord) (er : r ≡ term_record l k) where
       applied : Doing l R₀ k w f.start R s (applying k c₁ c₂ (Γ₀ l R₀ f) (reads l R.props t)) (kid_at l c₂, tt) a.used a.own a.wide
       applied = doing_same (bare (props l) one _ _) headed
 
-      pub object_other : sp ≡ quantified.Other → (e : Refusal) → e ≡ record { number = 22; place = r.child1.0 } → Refuses (run_of l R₀ k w f.start) e
+      pub object_other : NotOver all R.props t → (e : Refusal) → e ≡ record { number = 22; place = r.child1.0 } → Refuses (run_of l R₀ k w f.start) e
       unfolding applying obey
-      object_other q e ee =
-          let other : NotOver all R.props t = subst (OverAs all R.props count t) q is in
+      object_other other e ee =
           let place : r.child1.0 ≡ c₁ = ap (λ (r : TermRecord). r.child1.0) er in
           says 22 c₁ (ee ∙ (λ z. record { number = 22; place = place z })) (doing_stop (refusal 22 c₁) applied (ap (λ (q : Prog one). obey q (kid_at l c₂, tt) (st_of s)) (other (props l) one _ _)))
 
-      module _ (D : Name) (body : Proposition) (q : sp ≡ quantified.Over D body) (ob : Object) (tells₀ : ObjectAs l R.props R.work f.want r.child2.0 s ob) where
+      module _ (u : Bound) (over : Over all R.props count t u.datatype.0 u.body.0) where
+        abbrev D : Name
+        D = u.datatype
+
+        abbrev body : Proposition
+        body = u.body
+
         abbrev B : Prop
         B = room_at (props l) R.props body.0
 
-        over : Over all R.props count t D.0 body.0
-        over = subst (OverAs all R.props count t) q is
-
-        tells : ObjectAs l R.props R.work want.Synth c₂ s ob
-        tells = subst (λ (w : Want). ObjectAs l R.props R.work w c₂ s ob) a.holds.0 (subst (λ (r : TermRecord). ObjectAs l R.props R.work f.want r.child2.0 s ob) er tells₀)
+        tells : (ob : Result Serial Refusal) → ObjectAs l R.props R.work f.want r.child2.0 s ob → ObjectAs l R.props R.work want.Synth c₂ s ob
+        tells ob m = subst (λ (w : Want). ObjectAs l R.props R.work w c₂ s ob) a.holds.0 (subst (λ (r : TermRecord). ObjectAs l R.props R.work f.want r.child2.0 s ob) er m)
 
         abbrev known : ℕ → Prog one
         known i = ask (check (datatype D.0)) (Γ₀ l R₀ f) λ _. instancing k i B
@@ -112,31 +112,31 @@ module _ {l : List ℕ} {R₀ : Rooms} {f : Rule} {R : Rooms} {t : Sort} {s : St
         unfolding applying
         objecting = doing_same (over.goes (props l) one _ _ ∙ (λ z. objected 24 20 c₂ (sym same_context z) known)) applied
 
-        pub object_refused : (e : Refusal) → ob ≡ object.Refused e → Refuses (run_of l R₀ k w f.start) e
-        object_refused e eo = doing_stop (refusal_of e) objecting (subst (ObjectAs l R.props R.work want.Synth c₂ s) eo tells done known (kid_at l c₂, tt) refl)
+        pub object_refused : (e : Refusal) → ObjectAs l R.props R.work f.want r.child2.0 s (Err e) → Refuses (run_of l R₀ k w f.start) e
+        object_refused e m = doing_stop (refusal_of e) objecting (tells (Err e) m done known (kid_at l c₂, tt) refl)
 
-        pub object_asks : (i : Serial) → ob ≡ object.Known i → Asked l R₀ f R (left.Instance i body) c₂ (want.Check (sort.Datatype D)) s
-        object_asks i eo =
+        pub object_asks : (i : Serial) → ObjectAs l R.props R.work f.want r.child2.0 s (Ok i) → Asked l R₀ f R (left.Instance i body) c₂ (want.Check (sort.Datatype D)) s
+        object_asks i m =
             asks a.begun a.wants
-            (doing_step _ 0 objecting (left_none objecting.left.grown.arena) objecting.made (omega arith) (subst (ObjectAs l R.props R.work want.Synth c₂ s) eo tells done known (kid_at l c₂, tt) refl))
+            (doing_step _ 0 objecting (left_none objecting.left.grown.arena) objecting.made (omega arith) (tells (Ok i) m done known (kid_at l c₂, tt) refl))
             (omega (arith, a.holds.2)) a.fits (omega (arith, over.body, ec), omega (arith, a.holds.1), a.holds.0) a.others tt
 
 -- WHAT AN IMPL CONCLUDES
-pub concludes_by : {l : List ℕ} {R₀ : Rooms} {f : Rule} {R : Rooms} {t : Sort} {s : State} {b : Proposition} → Resumed l R₀ f R (left.Concludes b) t s → Resumed l R₀ f R (left.By 6 2) (sort.Proposition b) s
+pub concludes_by : {l : List ℕ} {R₀ : Rooms} {f : Rule} {R : Rooms} {t : Sort} {s : State} {b : Proposition} → Resumed l R₀ f R (left.Concludes b) t s → Resumed l R₀ f R (left.By inference.ImplElim 2) (sort.Proposition b) s
 concludes_by {l} {R₀} {f} {R} {b = b} a =
     turned a (record { among = a.holds.0; means = refl })
     (doing_same (ap (λ (A : Ty). by 6 f.term.0 A []) (sym (answered_synth l R₀.props a.holds.2 (prop (room_at (props l) R.props b.0))))) a.doing) (omega arith) a.holds.1 tt
 
 -- THE BODY OF A FORALL with the object in it
 module _ {l : List ℕ} {R₀ : Rooms} {f : Rule} {R : Rooms} {t : Sort} {s : State} {i : Serial} {b : Proposition} (a : Resumed l R₀ f R (left.Instance i b) t s)
-    (count : ℕ) (ec : count ≡ count_of l s) (free : ℕ) (el : free + s.made ≡ limit) (mo : Made) (ps : List ℕ) (puts : PutIs R.props count free b.0 i.0 ps mo) where
-  pub instance_full : mo ≡ Full → (e : Refusal) → e ≡ record { number = 30; place = f.term.0 } → Refuses (run_of l R₀ f.term.0 (mode l R₀.props f.want) f.start) e
-  instance_full q e ee = says 30 f.term.0 ee (doing_stop (refusal 30 f.term.0) a.doing (put_stops l R.props ps count free b.0 i.0 s mo ec el puts q f.term.0 _ tt))
+    (count : ℕ) (ec : count ≡ count_of l s) (free : ℕ) (el : free + s.made ≡ limit) (ps : List ℕ) where
+  pub instance_full : PutIs R.props count free b.0 i.0 ps None → (e : Refusal) → e ≡ record { number = 30; place = f.term.0 } → Refuses (run_of l R₀ f.term.0 (mode l R₀.props f.want) f.start) e
+  instance_full puts e ee = says 30 f.term.0 ee (doing_stop (refusal 30 f.term.0) a.doing (put_stops l R.props ps count free b.0 i.0 s None ec el puts refl f.term.0 _ tt))
 
-  pub instance_made : (m : Proposition) (z : ℕ) → mo ≡ At m z → (s₁ : State) → GrownTo s count z s₁ → Resumed l R₀ f (rooms R.tree R.goals ps R.work) (left.By 12 2) (sort.Proposition m) s₁
-  instance_made m z q s₁ g =
+  pub instance_made : (o : Copied) → PutIs R.props count free b.0 i.0 ps (Some o) → (s₁ : State) → GrownTo s count o.count s₁ → Resumed l R₀ f (rooms R.tree R.goals ps R.work) (left.By inference.ForAllElim 2) (sort.Proposition o.at) s₁
+  instance_made o puts s₁ g =
       let B = room_at (props l) R.props b.0 in
-      let d : MadeFor l R.props ps s s₁ (size B) (put i.0 B) m = put_made l R.props ps count free b.0 i.0 s mo ec el puts s₁ m z q g in
+      let d : MadeFor l R.props ps s s₁ (size B) (put i.0 B) o.at = put_made l R.props ps count free b.0 i.0 s (Some o) ec el puts s₁ o refl g in
       turned a d.stands
       (doing_same (ap (λ (A : Ty). by 12 f.term.0 A []) (sym (answered_synth l R₀.props a.holds.2 (prop (put i.0 B)))))
       (doing_step _ 0 a.doing (making_left R d.making) (making_made d.making) (making_serials d.making) (made_goes d f.term.0 _ tt)))

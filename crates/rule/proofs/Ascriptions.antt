@@ -6,6 +6,10 @@ use mathlib.Core.Option.{Option}
 use Prim.Native.Nat.{ℕ, ◌+◌, ◌*◌, ◌<◌, ◌≤◌}
 use native.Mathlib.Omega.{arith}
 use lib.ListN.{length}
+use Rattle.std.specs.declared.option.Option.{Option as Optional}
+use Rattle.std.specs.declared.option.Option.TheVariants.{Some, None}
+use Rattle.std.specs.declared.result.Result.{Result}
+use Rattle.std.specs.declared.result.Result.TheVariants.{Ok, Err}
 use Rattle.numbers.specs.declared.Term.{Term as Place}
 use Rattle.numbers.specs.declared.Sort.{Sort}
 use Rattle.numbers.specs.declared.refusal.Refusal.{Refusal}
@@ -22,17 +26,13 @@ use Rattle.table.specs.Passing.{Counted}
 use Rattle.table.specs.Reading.{annotated, ascribed, term_at}
 use Rattle.prop.specs.Compare.{is_alpha, compared_types}
 use Rattle.prop.specs.declared.compare.Compared.{Compared}
-use Rattle.prop.specs.Room.{type_at, TypeIn, Arena}
+use Rattle.prop.specs.Room.{type_at, TypeIn}
 use Rattle.prop.proofs.Alike.{alpha_types}
 use Rattle.step.specs.declared.state.State.{State}
 use Rattle.step.specs.declared.state.Want.{Want}
 use Rattle.step.specs.declared.state.Want.TheVariants as want
-use Rattle.step.specs.declared.state.Ran.{Ran}
-use Rattle.step.specs.declared.state.Ran.TheVariants as ran
-use Rattle.step.specs.declared.typing.Annotation.{Annotation}
-use Rattle.step.specs.declared.typing.Annotation.TheVariants as annotation
-use Rattle.step.specs.declared.typing.Resolving.{Resolving}
-use Rattle.step.specs.declared.typing.Resolving.TheVariants as resolving
+use Rattle.step.specs.declared.state.Answer.{Answer}
+use Rattle.step.specs.declared.typing.Resolution.{Resolution}
 use Rattle.step.specs.Rooms.{Rooms, rooms, reads, ctx_of, st_of, count_of, Stands, Loaded, Base}
 use Rattle.step.specs.Contract.{Ready, Accepts, refusal_of, Refuses, run_of, RanAs, synthesizes}
 use Rattle.step.specs.Under.{rest, kid_at}
@@ -47,7 +47,7 @@ use Rattle.rule.proofs.Going.{says as refuses-with}
 
 -- IN BOTH MODES
 module _ {l : List ℕ} {R : Rooms} {k : Place} {st : State} (rd : Ready l R k.0 st) (kind : (term_record l k.0).kind ≡ 12) (r : TermRecord) (er : r ≡ term_record l k.0)
-    (ann : Annotation) (ea : ann ≡ annotation_of r.tag r.typ) where
+    (ann : Optional Sort) (ea : ann ≡ annotation_of r.tag r.typ) where
   abbrev Γ : Ctx
   Γ = ctx_of l R.props R.work st.context
 
@@ -55,7 +55,7 @@ module _ {l : List ℕ} {R : Rooms} {k : Place} {st : State} (rd : Ready l R k.0
   c₁ = r.child1.0
 
   -- it has an annotation
-  pub as_given : ann ≡ annotation.Missing → ⊥
+  pub as_given : ann ≡ None → ⊥
   as_given = annotation_given rd.base.table rd.here r er ann ea kind
 
   pub as_place : (k.0 < c₁) × (c₁ < terms l)
@@ -65,7 +65,7 @@ module _ {l : List ℕ} {R : Rooms} {k : Place} {st : State} (rd : Ready l R k.0
   unfolding synthesizes
   as_alone = ap synthesizes kind
 
-  module _ (t : Sort) (et : ann ≡ annotation.Of t) where
+  module _ (t : Sort) (et : ann ≡ Some t) where
     abbrev T : Ty
     T = reads l R.props t
 
@@ -122,7 +122,7 @@ module _ {l : List ℕ} {R : Rooms} {k : Place} {st : State} (rd : Ready l R k.0
         stopped r e = goes ∙ ap (rest w end) (ask_refused (check A) Γ (λ _. conclude A []) (kid_at l c₁, tt) (st_of s) r (runs ∙ e)) ∙ rest_refused w end r
 
         -- a check answers what was asked of it
-        answers : {R₂ : Rooms} {T : Sort} {s₁ : State} → RanAs l R₁ R₂ c₁ (want.Check U) s (ran.Has T s₁) → Stands l R₂.props (count_of l s₁) T A
+        answers : {R₂ : Rooms} {T : Sort} {s₁ : State} → RanAs l R₁ R₂ c₁ (want.Check U) s (Ok (record { typ = T; state = s₁ })) → Stands l R₂.props (count_of l s₁) T A
         answers {R₂} {T} {s₁} m = subst (Stands l R₂.props (count_of l s₁) T) (check_answers (term_at l c₁) _ _ _ m.accepted.accepts ∙ says.means) m.type
 
         module _ {R₂ : Rooms} {s₁ : State} (acc : Accepts l R₁ R₂ s s₁ (run_of l R₁ c₁ (check (reads l ps U)) s)) where
@@ -139,29 +139,26 @@ module _ {l : List ℕ} {R : Rooms} {k : Place} {st : State} (rd : Ready l R k.0
               }
 
     -- CHECKED: the annotation is compared, and the child is held to what is wanted
-    module _ (wanted : Sort) (among : TypeIn (count_of l st) wanted) (ps : List ℕ) (v : Resolving) (is : ResolvingAs l R.props R.work ps k.0 (want.Check wanted) t st v) where
+    module _ (wanted : Sort) (among : TypeIn (count_of l st) wanted) (ps : List ℕ) where
       abbrev E : Ty
       E = reads l R.props wanted
 
-      pub held_unresolved : (e : Refusal) → v ≡ resolving.Refused e → Refuses (run_of l R k.0 (check E) st) e
+      pub held_unresolved : (e : Refusal) → ResolvingAs l R.props R.work ps k.0 (want.Check wanted) t st (Err e) → Refuses (run_of l R k.0 (check E) st) e
       unfolding ascribe_step
-      held_unresolved e q =
+      held_unresolved e unresolved =
           begins (check E)
-          ∙ ap (rest (check E) end) (subst (ResolvingAs l R.props R.work ps k.0 (want.Check wanted) t st) q is one _ (kid_at l c₁, tt))
+          ∙ ap (rest (check E) end) (unresolved one _ (kid_at l c₁, tt))
           ∙ rest_refused (check E) end (refusal_of e)
 
-      module _ (u : Sort) (s : State) (q : v ≡ resolving.To u s) where
-        to : ResolvedTo l R.props R.work ps k.0 (want.Check wanted) t st u s
-        to = subst (ResolvingAs l R.props R.work ps k.0 (want.Check wanted) t st) q is
+      module _ (o : Resolution) (to : ResolvedTo l R.props R.work ps k.0 (want.Check wanted) t st o.typ o.state) where
+        abbrev u : Sort
+        u = o.typ
+
+        abbrev s : State
+        s = o.state
 
         says : Stands l ps (count_of l s) wanted E
         says = making_stands to.making rd.base.loaded.arena (record { among = among; means = refl })
-
-        pub held_base : Base l (rooms R.tree R.goals ps R.work) s
-        held_base = making_base R to.making rd.base
-
-        pub held_compare : (count : ℕ) → count ≡ count_of l s → Arena ps count × (TypeIn count u × TypeIn count wanted)
-        held_compare count e = subst⁻¹ (λ (c : ℕ). Arena ps c × (TypeIn c u × TypeIn c wanted)) e (to.making.arena, (to.stands.among, says.among))
 
         pub held_ready : Ready l (rooms R.tree R.goals ps R.work) c₁ s
         held_ready = ready to
@@ -184,35 +181,32 @@ module _ {l : List ℕ} {R : Rooms} {k : Place} {st : State} (rd : Ready l R k.0
           unfolding obey
           held_apart e x ex = refuses-with 15 k.0 ex (goes false e ∙ rest_refused (check E) end (refusal 15 k.0))
 
-          pub held_done : b ≡ true → (R₂ : Rooms) (o : Ran) → RanAs l (rooms R.tree R.goals ps R.work) R₂ c₁ (want.Check wanted) s o → RanAs l R R₂ k.0 (want.Check wanted) st o
+          pub held_done : b ≡ true → (R₂ : Rooms) (o : Result Answer Refusal) → RanAs l (rooms R.tree R.goals ps R.work) R₂ c₁ (want.Check wanted) s o → RanAs l R R₂ k.0 (want.Check wanted) st o
           unfolding answered accepted
-          held_done e R₂ (ran.Has T s₁) m = record { accepted = accepted to (check E) wanted says (goes true e) m.accepted; type = answers to (check E) wanted says (goes true e) m }
-          held_done e R₂ (ran.Refused x) m = stopped to (check E) wanted says (goes true e) (refusal_of x) m
+          held_done e R₂ (Ok a) m = record { accepted = accepted to (check E) wanted says (goes true e) m.accepted; type = answers to (check E) wanted says (goes true e) m }
+          held_done e R₂ (Err x) m = stopped to (check E) wanted says (goes true e) (refusal_of x) m
 
     -- SYNTHESIZED: the child is held to the annotation, which is answered
-    module _ (ps : List ℕ) (v : Resolving) (is : ResolvingAs l R.props R.work ps k.0 want.Synth t st v) where
-      pub found_unresolved : (e : Refusal) → v ≡ resolving.Refused e → Refuses (run_of l R k.0 synth st) e
+    module _ (ps : List ℕ) where
+      pub found_unresolved : (e : Refusal) → ResolvingAs l R.props R.work ps k.0 want.Synth t st (Err e) → Refuses (run_of l R k.0 synth st) e
       unfolding ascribe_step
-      found_unresolved e q =
+      found_unresolved e unresolved =
           begins synth
-          ∙ ap (rest synth end) (subst (ResolvingAs l R.props R.work ps k.0 want.Synth t st) q is one _ (kid_at l c₁, tt))
+          ∙ ap (rest synth end) (unresolved one _ (kid_at l c₁, tt))
           ∙ rest_refused synth end (refusal_of e)
 
-      module _ (u : Sort) (s : State) (q : v ≡ resolving.To u s) where
-        found : ResolvedTo l R.props R.work ps k.0 want.Synth t st u s
-        found = subst (ResolvingAs l R.props R.work ps k.0 want.Synth t st) q is
-
-        goes_on : run_of l R k.0 synth st ≡ rest synth end (obey (ask (check found.typ) Γ λ _. conclude found.typ []) (kid_at l c₁, tt) (st_of s))
+      module _ (o : Resolution) (found : ResolvedTo l R.props R.work ps k.0 want.Synth t st o.typ o.state) where
+        goes_on : run_of l R k.0 synth st ≡ rest synth end (obey (ask (check found.typ) Γ λ _. conclude found.typ []) (kid_at l c₁, tt) (st_of o.state))
         unfolding ascribe_step
         goes_on = begins synth ∙ ap (rest synth end) (found.goes one _ (kid_at l c₁, tt))
 
-        pub found_ready : Ready l (rooms R.tree R.goals ps R.work) c₁ s
+        pub found_ready : Ready l (rooms R.tree R.goals ps R.work) c₁ o.state
         found_ready = ready found
 
-        pub found_type : TypeIn (count_of l s) u
+        pub found_type : TypeIn (count_of l o.state) o.typ
         found_type = found.stands.among
 
-        pub found_done : (R₂ : Rooms) (o : Ran) → RanAs l (rooms R.tree R.goals ps R.work) R₂ c₁ (want.Check u) s o → RanAs l R R₂ k.0 want.Synth st o
+        pub found_done : (R₂ : Rooms) (x : Result Answer Refusal) → RanAs l (rooms R.tree R.goals ps R.work) R₂ c₁ (want.Check o.typ) o.state x → RanAs l R R₂ k.0 want.Synth st x
         unfolding answered accepted
-        found_done R₂ (ran.Has T s₁) m = record { accepted = accepted found synth u found.stands goes_on m.accepted; type = answers found synth u found.stands goes_on m }
-        found_done R₂ (ran.Refused x) m = stopped found synth u found.stands goes_on (refusal_of x) m
+        found_done R₂ (Ok a) m = record { accepted = accepted found synth o.typ found.stands goes_on m.accepted; type = answers found synth o.typ found.stands goes_on m }
+        found_done R₂ (Err x) m = stopped found synth o.typ found.stands goes_on (refusal_of x) m

@@ -4,6 +4,7 @@ use mathlib.Core.Bool.{Bool, true, false, not, cond}
 use mathlib.Core.List.{List, [], ◌∷◌}
 use Prim.Native.Nat.{ℕ}
 use native.Mathlib.Omega.{arith}
+use Rattle.std.specs.declared.result.Result.TheVariants.{Ok}
 use Rattle.numbers.specs.declared.Name.{Name}
 use Rattle.numbers.specs.declared.Proposition.{Proposition}
 use Rattle.numbers.specs.declared.Serial.{Serial}
@@ -24,14 +25,12 @@ use Rattle.prop.specs.Room.{room_at, type_at}
 use Rattle.prop.specs.Compare.{compared_types, is_alpha}
 use Rattle.prop.specs.declared.compare.Compared.{Compared}
 use Rattle.prop.specs.declared.head.Parts.{Parts}
-use Rattle.prop.specs.declared.head.Parts.TheVariants as parts
 use Rattle.prop.proofs.Alike.{alpha_types}
 use Rattle.context.specs.Context.{Inserted}
 use Rattle.step.specs.declared.state.State.{State}
 use Rattle.step.specs.declared.state.Want.{Want}
 use Rattle.step.specs.declared.state.Want.TheVariants as want
-use Rattle.step.specs.declared.state.Ran.TheVariants as ran
-use Rattle.prop.specs.Head.{Split, Unsplit, SplitAs}
+use Rattle.prop.specs.Head.{Split, Unsplit}
 use Rattle.step.specs.Rooms.{Rooms, rooms, reads, count_of, inner, numbered, deeper, Stands}
 use Rattle.step.specs.Modes.{mode, WantIn, answer_of, number_of}
 use Rattle.step.specs.Trees.{node_rec}
@@ -59,7 +58,7 @@ case_begins {l} {R} {k} {st} {w} rd kind wants =
     (omega arith) (omega (arith, triple_nodes (is_case t rd.here kind))) (refl, refl) (case_head t rd.here kind, (case_left t rd.here kind, (case_right t rd.here kind, tt))) tt
 
 -- THE LEFT ARM, of what the head has
-module _ {l : List ℕ} {R₀ : Rooms} {f : Rule} {R : Rooms} {t : Sort} {s : State} (a : Resumed l R₀ f R left.CaseLeft t s) (count : ℕ) (ec : count ≡ count_of l s) (sp : Parts) (is : SplitAs or R.props count t sp) where
+module _ {l : List ℕ} {R₀ : Rooms} {f : Rule} {R : Rooms} {t : Sort} {s : State} (a : Resumed l R₀ f R left.CaseLeft t s) (count : ℕ) (ec : count ≡ count_of l s) where
   abbrev k : ℕ
   k = f.term.0
 
@@ -72,22 +71,20 @@ module _ {l : List ℕ} {R₀ : Rooms} {f : Rule} {R : Rooms} {t : Sort} {s : St
   opening : Doing l R₀ k w f.start R s (program l R.props k w (Γ₀ l R₀ f) left.CaseLeft (reads l R.props t)) (kids l (after (term_record l k) left.CaseLeft)) a.used a.own a.wide
   opening = doing_same (ap (program l R.props k w (Γ₀ l R₀ f) left.CaseLeft) (sym a.stands.means)) a.doing
 
-  pub case_other : sp ≡ parts.Other → (r : TermRecord) → r ≡ term_record l k → (n : ℕ) → n ≡ number_of f.want 12 22 → (e : Refusal) → e ≡ record { number = n; place = r.child1.0 } → Refuses (run_of l R₀ k w f.start) e
+  pub case_other : Unsplit or R.props t → (r : TermRecord) → r ≡ term_record l k → (n : ℕ) → n ≡ number_of f.want 12 22 → (e : Refusal) → e ≡ record { number = n; place = r.child1.0 } → Refuses (run_of l R₀ k w f.start) e
   unfolding obey
-  case_other q r er n en e ee =
-      let bare : Unsplit or R.props t = subst (SplitAs or R.props count t) q is in
+  case_other bare r er n en e ee =
       let place : r.child1.0 ≡ c₁ = ap (λ (r : TermRecord). r.child1.0) er in
       says (of w 12 22) c₁ (ee ∙ (λ i. record { number = (en ∙ sym (of_number l R₀.props f.want 12 22)) i; place = place i })) (doing_stop (refusal (of w 12 22) c₁) (doing_same (bare (props l) two _ _) opening) refl)
 
-  pub left_asks : (x y : Proposition) → sp ≡ parts.Both x y → (r : TermRecord) → r ≡ term_record l k → {work' : List ℕ} {s₁ : State}
-      → (s₁ ≡ deeper (numbered s)) × Inserted R.work s.context (record { name = r.name1; serial = record { 0 = s.serials }; typ = sort.Proposition x }) work'
-      → Asked l R₀ f (rooms R.tree R.goals R.props work') (left.CaseRight (record { 0 = s.serials }) y) (term_record l k).child2.0 f.want s₁
-  left_asks x y e r er {work'} {s₁} en =
-      let split : Split or R.props count t x.0 y.0 = subst (SplitAs or R.props count t) e is in
-      let en' = subst (λ (r : TermRecord). (s₁ ≡ deeper (numbered s)) × Inserted R.work s.context (record { name = r.name1; serial = record { 0 = s.serials }; typ = sort.Proposition x }) work') er en in
+  pub left_asks : (o : Parts) → Split or R.props count t o.left.0 o.right.0 → (r : TermRecord) → r ≡ term_record l k → {work' : List ℕ} {s₁ : State}
+      → (s₁ ≡ deeper (numbered s)) × Inserted R.work s.context (record { name = r.name1; serial = record { 0 = s.serials }; typ = sort.Proposition o.left }) work'
+      → Asked l R₀ f (rooms R.tree R.goals R.props work') (left.CaseRight (record { 0 = s.serials }) o.right) (term_record l k).child2.0 f.want s₁
+  left_asks o split r er {work'} {s₁} en =
+      let en' = subst (λ (r : TermRecord). (s₁ ≡ deeper (numbered s)) × Inserted R.work s.context (record { name = r.name1; serial = record { 0 = s.serials }; typ = sort.Proposition o.left }) work') er en in
       let d = doing_same (split.goes (props l) two _ _) opening in
-      asks_fresh a.begun a.wants d {A = reads l R.props (sort.Proposition x)} (record { among = omega (arith, split.first, ec); means = refl }) en'
-      (ap (λ (v : Mode). ask v (entry (term_record l k).name1.0 s.serials (reads l R.props (sort.Proposition x)) ∷ Γ₀ l R₀ f) λ S. arming l k w (Γ₀ l R₀ f) s.serials (room_at (props l) R.props y.0) S) (mode_kept f.want a.begun a.wants d))
+      asks_fresh a.begun a.wants d {A = reads l R.props (sort.Proposition o.left)} (record { among = omega (arith, split.first, ec); means = refl }) en'
+      (ap (λ (v : Mode). ask v (entry (term_record l k).name1.0 s.serials (reads l R.props (sort.Proposition o.left)) ∷ Γ₀ l R₀ f) λ S. arming l k w (Γ₀ l R₀ f) s.serials (room_at (props l) R.props o.right.0) S) (mode_kept f.want a.begun a.wants d))
       (omega (arith, a.holds.1)) a.fits (omega (arith, split.second, ec), omega (arith, a.holds.0), omega (arith, a.holds.1)) a.others (wants_kept f.want a.begun a.wants d)
 
 -- THE RIGHT ARM
@@ -151,7 +148,7 @@ module _ {l : List ℕ} {R₀ : Rooms} {f : Rule} {R : Rooms} {t u : Sort} {s : 
     case_data D e n en r er = says (number_of f.want 13 24) k₂ (mode_refusal r n _ k₂ en er) (doing_stop (refusal (number_of f.want 13 24) k₂) (typed (sort.Datatype D) e) refl)
 
     pub case_done : (p : Proposition) → t ≡ sort.Proposition p → (nd : Record) → nd ≡ node_rec 9 k₂ t i.0 j.0 3 → (tr : List ℕ) → Put R.tree f.start.records nd tr → (found : Sort) → found ≡ answer_of f.want u
-        → RanAs l R₀ (rooms tr R.goals R.props R.work) k₂ f.want f.start (ran.Has found s)
+        → RanAs l R₀ (rooms tr R.goals R.props R.work) k₂ f.want f.start (Ok (record { typ = found; state = s }))
     unfolding on_prop
     case_done p e nd en tr put found ef =
         concludes f t found (typed (sort.Proposition p) e) (record { among = a.holds.0; means = refl }) (subst⁻¹ (λ (U : Sort). Stands l R.props (count_of l s) U (answered v a.typ)) ef (answer_stands a))

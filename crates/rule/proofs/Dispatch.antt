@@ -40,15 +40,6 @@ above m j h n = at (eq-or-lt_of_le h)
     at (inl e) = absurd (n (sym e))
     at (inr l) = omega arith
 
-pub past_one : (j : ℕ) → (j ≡ 0 → ⊥) → (j ≡ 1 → ⊥) → 1 < j
-past_one j a b = above 1 j (above 0 j (omega arith) a) b
-
-pub past_six₂ : (j : ℕ) → 4 ≤ j → (j ≡ 4 → ⊥) → (j ≡ 5 → ⊥) → (j ≡ 6 → ⊥) → 6 < j
-past_six₂ j h a b c = above 6 j (above 5 j (above 4 j h a) b) c
-
-pub past_six : (j : ℕ) → 6 ≤ j → (j ≡ 6 → ⊥) → 6 < j
-past_six j h a = above 6 j h a
-
 pub past_twelve : (j : ℕ) → 9 ≤ j → (j ≡ 9 → ⊥) → (j ≡ 10 → ⊥) → (j ≡ 11 → ⊥) → (j ≡ 12 → ⊥) → 12 < j
 past_twelve j h a b c d = above 12 j (above 11 j (above 10 j (above 9 j h a) b) c) d
 

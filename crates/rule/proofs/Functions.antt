@@ -1,4 +1,5 @@
 -- Function, piece by piece. Assumes nothing.
+use Rattle.step.specs.declared.inference.Inference.{Inference}
 use mathlib.Core.Path.{◌≡◌, refl, ap, sym, subst, subst⁻¹, ◌∙◌}
 use mathlib.Core.List.{List, [], ◌∷◌}
 use mathlib.Core.Option.{Option}
@@ -6,6 +7,10 @@ use Prim.Native.Nat.{ℕ, ◌+◌, ◌*◌, ◌<◌, ◌≤◌}
 use native.Mathlib.Numerals.{add-one}
 use native.Mathlib.Omega.{arith}
 use lib.ListN.{length}
+use Rattle.std.specs.declared.option.Option.{Option as Optional}
+use Rattle.std.specs.declared.option.Option.TheVariants.{Some, None}
+use Rattle.std.specs.declared.result.Result.{Result}
+use Rattle.std.specs.declared.result.Result.TheVariants.{Ok, Err}
 use Rattle.numbers.specs.declared.Name.{Name}
 use Rattle.numbers.specs.declared.Proposition.{Proposition}
 use Rattle.numbers.specs.declared.Serial.{Serial}
@@ -15,7 +20,7 @@ use Rattle.numbers.specs.declared.Term.{Term as Place}
 use Rattle.numbers.specs.declared.identifier.Identifier.{Identifier}
 use Rattle.numbers.specs.declared.record.Record.{Record}
 use Rattle.numbers.specs.declared.refusal.Refusal.{Refusal}
-use Rattle.numbers.specs.Limits.{none, largest}
+use Rattle.numbers.specs.Limits.{none}
 use Rattle.numbers.specs.Records.{Put}
 use Rattle.layout.specs.declared.record.TermRecord.{TermRecord}
 use Rattle.layout.specs.File.{props, terms, term_record}
@@ -29,34 +34,26 @@ use Rattle.table.specs.Passing.{Counted}
 use Rattle.table.specs.Reading.{term_at}
 use Rattle.table.specs.Reading.{annotated as written}
 use Rattle.prop.specs.Room.{room_at, TypeIn}
-use Rattle.context.specs.Context.{most_entries, Inserted}
+use Rattle.context.specs.Context.{Inserted}
 use Rattle.step.specs.declared.state.State.{State}
 use Rattle.step.specs.declared.state.Want.TheVariants as want
-use Rattle.step.specs.declared.state.Ran.TheVariants as ran
-use Rattle.step.specs.declared.typing.Annotation.{Annotation}
-use Rattle.step.specs.declared.typing.Annotation.TheVariants as annotation
-use Rattle.step.specs.declared.typing.Resolving.{Resolving}
-use Rattle.step.specs.declared.typing.Resolving.TheVariants as resolving
-use Rattle.step.specs.declared.typing.Agreed.{Agreed}
-use Rattle.step.specs.declared.typing.Agreed.TheVariants as agreed
-use Rattle.step.specs.declared.open.Opened.{Opened}
-use Rattle.step.specs.declared.open.Opened.TheVariants as opened
-use Rattle.step.specs.declared.open.Abstracted.{Abstracted}
-use Rattle.step.specs.declared.open.Abstracted.TheVariants as abstraction
+use Rattle.step.specs.declared.typing.Resolution.{Resolution}
+use Rattle.step.specs.declared.open.Opening.{Opening}
+use Rattle.step.specs.declared.open.Abstraction.{Abstraction}
 use Rattle.step.specs.Rooms.{Rooms, rooms, reads, ctx_of, st_of, count_of, inner, numbered, deeper, Stands, Loaded, Base}
 use Rattle.step.specs.Modes.{mode, answer_of}
-use Rattle.step.specs.Trees.{node_rec}
+use Rattle.step.specs.Trees.{rule_number, node_rec}
 use Rattle.step.specs.Contract.{Ready, refusal_of, Refuses, run_of, RanAs}
 use Rattle.step.specs.Steps.{Making, annotation_of, AnnotationIn, ResolvedTo, ResolvingAs, saying, AgreedOn, AgreedAs, OpenedTo, OpenedAs, AbstractedTo, AbstractedAs}
 use Rattle.step.specs.Under.{Doing, kid_at}
-use Rattle.step.proofs.Doing.{doing_start, doing_base, doing_ctx, doing_stands, doing_same, doing_step, doing_stop}
+use Rattle.step.proofs.Doing.{doing_start, doing_base, doing_ctx, doing_same, doing_step, doing_stop}
 use Rattle.step.proofs.Terms.{single_begins, single_nodes, is_fun, fun_child}
 use Rattle.step.proofs.Moves.{making_left, making_made, making_serials, making_stands, numbered_left, entered_left, entered_entries, entered_ctx}
 use Rattle.step.proofs.Annotations.{annotation_says, annotation_among}
 use Rattle.rule.specs.declared.next.Rule.{Rule}
 use Rattle.rule.specs.declared.next.Rest.TheVariants as left
 use Rattle.rule.specs.Reading.{abstracting}
-use Rattle.rule.specs.Going.{Asked, Resumed, Fresh}
+use Rattle.rule.specs.Going.{Asked, Resumed}
 use Rattle.rule.proofs.Going.{says, answered_synth, few_entries, asks_in, asks_fresh, ends_with, turned}
 
 -- what was made is made with one record more
@@ -89,9 +86,6 @@ module _ {l : List ℕ} {R : Rooms} {k : Place} {st : State} (rd : Ready l R k.0
   unfolding single_step
   begun w = doing_start _ (kid_at l c₁, tt) rd (single_begins l k.0 R w st (Single.fun x (written l k.0)) c₁ (is_fun rd.base.table rd.here kind))
 
-  pub function_serials : (z : State) → z ≡ inner st → z.serials < largest
-  function_serials z e = let g = ap (λ (s : State). s.serials) e in omega (arith, rd.serials, rd.base.table.counted.few, sizes)
-
   -- CHECKED: what `new_identifier` says, of the state that `inner` answered
   module _ (wanted : Sort) (among : TypeIn (count_of l st) wanted) (z : State) (ez : z ≡ inner st) (id : Identifier) (s₀ : State) (en : id.name ≡ r.name1) (ei₀ : id.serial.0 ≡ z.serials) (e₀₀ : s₀ ≡ numbered z) where
     abbrev E : Ty
@@ -122,24 +116,22 @@ module _ {l : List ℕ} {R : Rooms} {k : Place} {st : State} (rd : Ready l R k.0
         (subst⁻¹ (λ (i : ℕ). Doing l R k.0 (check E) st R (numbered (inner st)) (parts i) (kid_at l c₁, tt) 0 1 0) ei
         (doing_step _ 1 (begun (check E)) (numbered_left rd.base.loaded.arena) rd.base.made (omega arith) (serial_goes parts (kid_at l c₁, tt) (inner st))))
 
-    pub open_asks : Counted l × (Loaded l R.props (count_of l s₀) × (TypeIn (count_of l s₀) wanted × (s₀.made ≤ limit)))
-    open_asks =
-        let stands : Stands l R.props (count_of l s₀) wanted E = doing_stands rd.base counted (record { among = among; means = refl }) in
-        (rd.base.table.counted, ((doing_base rd.base counted).loaded, (stands.among, counted.made)))
+    module _ (ps₁ : List ℕ) where
+      pub open_refused : (e : Refusal) → OpenedAs l R.props ps₁ k.0 wanted i s₀ (Err e) → Refuses (run_of l R k.0 (check E) st) e
+      open_refused e says = doing_stop (refusal_of e) counted (says one _ (kid_at l c₁, tt))
 
-    module _ (ps₁ : List ℕ) (op : Opened) (is : OpenedAs l R.props ps₁ k.0 wanted i s₀ op) where
-      pub open_refused : (e : Refusal) → op ≡ opened.Refused e → Refuses (run_of l R k.0 (check E) st) e
-      open_refused e q = doing_stop (refusal_of e) counted (subst (OpenedAs l R.props ps₁ k.0 wanted i s₀) q is one _ (kid_at l c₁, tt))
+      module _ (o : Opening) (to : OpenedTo l R.props ps₁ k.0 wanted i s₀ (rule_number o.rule) o.parameter o.body.0 o.state) (ann : Optional Sort) (ea : ann ≡ annotation_of r.tag r.typ) where
+        abbrev a : Sort
+        a = o.parameter
 
-      module _ (rule : ℕ) (a : Sort) (b : Proposition) (s : State) (q : op ≡ opened.Body rule a b s) (ann : Annotation) (ea : ann ≡ annotation_of r.tag r.typ) where
-        to : OpenedTo l R.props ps₁ k.0 wanted i s₀ rule a b.0 s
-        to = subst (OpenedAs l R.props ps₁ k.0 wanted i s₀) q is
+        abbrev s : State
+        s = o.state
 
         abbrev R₁ : Rooms
         R₁ = rooms R.tree R.goals ps₁ R.work
 
         abbrev rest_of : Prog one
-        rest_of = premise i rule to.parameter to.body
+        rest_of = premise i (rule_number o.rule) to.parameter to.body
 
         started : Doing l R k.0 (check E) st R₁ s (annotated k.0 Γ (written l k.0) to.parameter rest_of) (kid_at l c₁, tt) 0 1 0
         started = doing_step _ 0 counted (making_left R to.making) (making_made to.making) (making_serials to.making) (to.goes one _ (kid_at l c₁, tt))
@@ -167,14 +159,11 @@ module _ {l : List ℕ} {R : Rooms} {k : Place} {st : State} (rd : Ready l R k.0
             let says = sym (annotation_says rd.base.table rd.here r er ann ea room.loaded) in
             doing_same (λ j. annotated k.0 (same_context j) (says j) (sym to.parameter_stands.means j) rest_of) started
 
-        module _ (ps₂ : List ℕ) (ag : Agreed) (ia : AgreedAs l ps₁ R.work ps₂ k.0 ann a s ag) where
-          pub agree_refused : (e : Refusal) → ag ≡ agreed.Refused e → Refuses (run_of l R k.0 (check E) st) e
-          agree_refused e q = doing_stop (refusal_of e) asked (subst (AgreedAs l ps₁ R.work ps₂ k.0 ann a s) q ia one _ (kid_at l c₁, tt))
+        module _ (ps₂ : List ℕ) where
+          pub agree_refused : (e : Refusal) → AgreedAs l ps₁ R.work ps₂ k.0 ann a s (Err e) → Refuses (run_of l R k.0 (check E) st) e
+          agree_refused e says = doing_stop (refusal_of e) asked (says one _ (kid_at l c₁, tt))
 
-          module _ (s₁ : State) (q₁ : ag ≡ agreed.On s₁) where
-            on : AgreedOn l ps₁ R.work ps₂ k.0 ann a s s₁
-            on = subst (AgreedAs l ps₁ R.work ps₂ k.0 ann a s) q₁ ia
-
+          module _ (s₁ : State) (on : AgreedOn l ps₁ R.work ps₂ k.0 ann a s s₁) where
             abbrev R₂ : Rooms
             R₂ = rooms R.tree R.goals ps₂ R.work
 
@@ -184,82 +173,66 @@ module _ {l : List ℕ} {R : Rooms} {k : Place} {st : State} (rd : Ready l R k.0
             parameter : Stands l ps₂ (count_of l s₁) a to.parameter
             parameter = making_stands on.making to.making.arena to.parameter_stands
 
-            body : Stands l ps₂ (count_of l s₁) (sort.Proposition b) (prop to.body)
+            body : Stands l ps₂ (count_of l s₁) (sort.Proposition o.body) (prop to.body)
             body = making_stands on.making to.making.arena to.body_stands
 
-            pub enter_room : (8 * s₁.context + 8 ≤ length R.work) × (s₁.context < largest)
-            enter_room = let few : s₁.context < most_entries = few_entries rd ahead in (omega (arith, rd.base.work_room), omega arith)
-
             pub function_begins : (s₂ : State) (work : List ℕ) → s₂ ≡ deeper s₁ → Inserted R.work s₁.context (record { name = id.name; serial = id.serial; typ = a }) work
-                → Asked l R f (rooms R.tree R.goals ps₂ work) (left.Closes rule id.serial) c₁ (want.Check (sort.Proposition b)) s₂
+                → Asked l R f (rooms R.tree R.goals ps₂ work) (left.Closes o.rule id.serial) c₁ (want.Check (sort.Proposition o.body)) s₂
             unfolding answered
             function_begins s₂ work e₂ ins =
                 let entered = doing_step rest_of 0 ahead (entered_left R₂ s₁ ins on.making.arena (few_entries rd ahead)) ahead.made (omega arith) refl in
                 let outer : Γ ≡ ctx_of l ps₂ R.work s₁.context = sym (doing_ctx rd.base ahead) ∙ ap (ctx_of l ps₂ R.work) (sym ahead.left.context) in
                 let name : x ≡ id.name.0 = ap (λ (r : TermRecord). r.name1.0) (sym er) ∙ ap (λ (n : Name). n.0) (sym en) in
                 let deep : entry x i to.parameter ∷ Γ ≡ ctx_of l ps₂ work (s₁.context + 1) = (λ j. entry (name j) i (sym parameter.means j) ∷ outer j) ∙ sym (entered_ctx R₂ s₁ ins l) in
-                asks_in 1 rd among (doing_same (λ j. ask (check (sym body.means j)) (deep j) λ _. by rule k.0 E (i ∷ [])) entered) e₂ (omega arith) (omega arith) (omega (arith, sizes)) refl inside body.among
+                asks_in 1 rd among (doing_same (λ j. ask (check (sym body.means j)) (deep j) λ _. by (rule_number o.rule) k.0 E (i ∷ [])) entered) e₂ (omega arith) (omega arith) (omega (arith, sizes)) refl inside body.among
                 (entered_entries R₂ s₁ ins (count_of l s₁) (doing_base rd.base ahead).entries parameter.among)
 
   -- SYNTHESIZED: an annotation is needed
-  module _ (ann : Annotation) (ea : ann ≡ annotation_of r.tag r.typ) where
-    said : (a : Annotation) → ann ≡ a → Doing l R k.0 synth st R (inner st) (fun_synth k.0 c₁ x (saying l R.props a) Γ) (kid_at l c₁, tt) 0 0 0
+  module _ (ann : Optional Sort) (ea : ann ≡ annotation_of r.tag r.typ) where
+    said : (a : Optional Sort) → ann ≡ a → Doing l R k.0 synth st R (inner st) (fun_synth k.0 c₁ x (saying l R.props a) Γ) (kid_at l c₁, tt) 0 0 0
     unfolding fun_step
     said a e = doing_same (ap (λ (T : Option Ty). fun_synth k.0 c₁ x T Γ) (sym (annotation_says rd.base.table rd.here r er ann ea rd.base.loaded) ∙ ap (saying l R.props) e)) (begun synth)
 
-    pub function_bare : ann ≡ annotation.Missing → (e : Refusal) → e ≡ record { number = 21; place = k.0 } → Refuses (run_of l R k.0 synth st) e
+    pub function_bare : ann ≡ None → (e : Refusal) → e ≡ record { number = 21; place = k.0 } → Refuses (run_of l R k.0 synth st) e
     unfolding fun_synth obey
-    function_bare q e ee = says 21 k.0 ee (doing_stop (refusal 21 k.0) (said annotation.Missing q) refl)
+    function_bare q e ee = says 21 k.0 ee (doing_stop (refusal 21 k.0) (said None q) refl)
 
-    pub function_resolves : (t : Sort) → ann ≡ annotation.Of t → Counted l × (Loaded l R.props (count_of l st) × (TypeIn (count_of l st) t × ((st.made ≤ limit) × (8 * st.context ≤ length R.work))))
+    pub function_resolves : (t : Sort) → ann ≡ Some t → Counted l × (Loaded l R.props (count_of l st) × (TypeIn (count_of l st) t × ((st.made ≤ limit) × (8 * st.context ≤ length R.work))))
     function_resolves t et =
         let among = annotation_among rd.base.table rd.here r er ann ea rd.base.loaded in
         (rd.base.table.counted, (rd.base.loaded, (subst (AnnotationIn (count_of l st)) et among, (rd.base.made, omega (arith, rd.context, rd.base.table.counted.few, rd.base.work_room)))))
 
-    module _ (t : Sort) (et : ann ≡ annotation.Of t) (ps : List ℕ) (v : Resolving) (is : ResolvingAs l R.props R.work ps k.0 want.Synth t st v) where
+    module _ (t : Sort) (et : ann ≡ Some t) (ps : List ℕ) where
       abbrev under : Ty → ℕ → Prog one
       under A j = ask synth (entry x j A ∷ Γ) (abstracting l k.0 j A)
 
       given : Doing l R k.0 synth st R (inner st) (resolved 20 k.0 Γ (reads l R.props t) (λ A. serial (under A))) (kid_at l c₁, tt) 0 0 0
       unfolding fun_synth
-      given = said (annotation.Of t) et
+      given = said (Some t) et
 
-      pub function_unresolved : (e : Refusal) → v ≡ resolving.Refused e → Refuses (run_of l R k.0 synth st) e
-      function_unresolved e q = doing_stop (refusal_of e) given (subst (ResolvingAs l R.props R.work ps k.0 want.Synth t st) q is one _ (kid_at l c₁, tt))
+      pub function_unresolved : (e : Refusal) → ResolvingAs l R.props R.work ps k.0 want.Synth t st (Err e) → Refuses (run_of l R k.0 synth st) e
+      function_unresolved e says = doing_stop (refusal_of e) given (says one _ (kid_at l c₁, tt))
 
-      module _ (a : Sort) (s : State) (q : v ≡ resolving.To a s) where
-        found : ResolvedTo l R.props R.work ps k.0 want.Synth t st a s
-        found = subst (ResolvingAs l R.props R.work ps k.0 want.Synth t st) q is
-
-        numbering : Doing l R k.0 synth st (rooms R.tree R.goals ps R.work) (inner s) (serial (under found.typ)) (kid_at l c₁, tt) 0 0 0
+      module _ (o : Resolution) (found : ResolvedTo l R.props R.work ps k.0 want.Synth t st o.typ o.state) where
+        numbering : Doing l R k.0 synth st (rooms R.tree R.goals ps R.work) (inner o.state) (serial (under found.typ)) (kid_at l c₁, tt) 0 0 0
         numbering =
             let mk = inner_making found.making in
             doing_step _ 0 given (making_left R mk) (making_made mk) (making_serials mk) (found.goes one _ (kid_at l c₁, tt))
 
-        pub function_records : s.records < largest
-        function_records = omega (arith, rd.records, sizes, ap (λ (s : State). s.records) found.making.state)
-
-        module _ (s₀ : State) (e₀ : s₀ ≡ inner s) where
-          pub function_room : Fresh R.work s₀
-          function_room =
-              let e : s₀.context ≡ s.context = ap (λ (s : State). s.context) e₀ in
-              let g : s₀.serials ≡ st.serials = ap (λ (s : State). s.serials) e₀ ∙ ap (λ (s : State). s.serials) found.making.state in
-              let few : s.context < most_entries = few_entries rd numbering in
-              (omega (arith, rd.base.work_room), (omega arith, omega (arith, rd.serials, rd.base.table.counted.few, sizes)))
-
-          pub function_asks : (s₁ : State) (work : List ℕ) → (s₁ ≡ deeper (numbered s₀)) × Inserted R.work s₀.context (record { name = r.name1; serial = record { 0 = s₀.serials }; typ = a }) work
-              → Asked l R (record { term = k; want = want.Synth; start = st }) (rooms R.tree R.goals ps work) (left.Abstracts (record { 0 = s.serials }) a) c₁ want.Synth s₁
+        module _ (s₀ : State) (e₀ : s₀ ≡ inner o.state) where
+          pub function_asks : (s₁ : State) (work : List ℕ) → (s₁ ≡ deeper (numbered s₀)) × Inserted R.work s₀.context (record { name = r.name1; serial = record { 0 = s₀.serials }; typ = o.typ }) work
+              → Asked l R (record { term = k; want = want.Synth; start = st }) (rooms R.tree R.goals ps work) (left.Abstracts (record { 0 = o.state.serials }) o.typ) c₁ want.Synth s₁
           function_asks s₁ work en =
-              let en₁ = subst (λ (s₀ : State). (s₁ ≡ deeper (numbered s₀)) × Inserted R.work s₀.context (record { name = r.name1; serial = record { 0 = s₀.serials }; typ = a }) work) e₀ en in
-              let en₂ = subst (λ (r : TermRecord). (s₁ ≡ deeper (numbered (inner s))) × Inserted R.work s.context (record { name = r.name1; serial = record { 0 = s.serials }; typ = a }) work) er en₁ in
-              asks_fresh rd tt numbering {A = found.typ} found.stands en₂ (ap (λ (A : Ty). ask synth (entry x s.serials found.typ ∷ Γ) (abstracting l k.0 s.serials A)) (sym found.stands.means))
+              let en₁ = subst (λ (s₀ : State). (s₁ ≡ deeper (numbered s₀)) × Inserted R.work s₀.context (record { name = r.name1; serial = record { 0 = s₀.serials }; typ = o.typ }) work) e₀ en in
+              let en₂ = subst (λ (r : TermRecord). (s₁ ≡ deeper (numbered (inner o.state))) × Inserted R.work o.state.context (record { name = r.name1; serial = record { 0 = o.state.serials }; typ = o.typ }) work) er en₁ in
+              asks_fresh rd tt numbering {A = found.typ} found.stands en₂ (ap (λ (A : Ty). ask synth (entry x o.state.serials found.typ ∷ Γ) (abstracting l k.0 o.state.serials A)) (sym found.stands.means))
               (omega arith) (omega (arith, sizes)) (found.stands.among, refl, refl) inside tt
 
 -- THE NODE of a checked function
-pub closes_by : {l : List ℕ} {R₀ : Rooms} {f : Rule} {R : Rooms} {T : Sort} {s : State} {n : ℕ} {i : Serial} → Resumed l R₀ f R (left.Closes n i) T s → (found : Sort) → found ≡ answer_of f.want T
-    → (nd : Record) → nd ≡ node_rec n f.term.0 found i.0 none 1 → (tr : List ℕ) → Put R.tree f.start.records nd tr
-    → RanAs l R₀ (rooms tr R.goals R.props R.work) f.term.0 f.want f.start (ran.Has found s)
-closes_by {f = f} {n = n} {i = i} a found ef nd en tr put = ends_with a (i.0 ∷ []) a.doing found ef nd (en ∙ ap (node_rec n f.term.0 found i.0 none) (sym a.holds)) tr put
+pub closes_by : {l : List ℕ} {R₀ : Rooms} {f : Rule} {R : Rooms} {T : Sort} {s : State} {n : Inference} {i : Serial} → Resumed l R₀ f R (left.Closes n i) T s → (found : Sort) → found ≡ answer_of f.want T
+    → (nd : Record) → nd ≡ node_rec (rule_number n) f.term.0 found i.0 none 1 → (tr : List ℕ) → Put R.tree f.start.records nd tr
+    → RanAs l R₀ (rooms tr R.goals R.props R.work) f.term.0 f.want f.start (Ok (record { typ = found; state = s }))
+closes_by {f = f} {n = n} {i = i} a found ef nd en tr put = ends_with a (i.0 ∷ []) a.doing found ef nd (en ∙ ap (node_rec (rule_number n) f.term.0 found i.0 none) (sym a.holds)) tr put
 
 -- THE CONCLUSION of a synthesized one, of what its body has
 module _ {l : List ℕ} {R₀ : Rooms} {f : Rule} {R : Rooms} {t : Sort} {s : State} {i : Serial} {S : Sort} (a : Resumed l R₀ f R (left.Abstracts i S) t s) (r : TermRecord) (er : r ≡ term_record l f.term.0) where
@@ -282,21 +255,21 @@ module _ {l : List ℕ} {R₀ : Rooms} {f : Rule} {R : Rooms} {t : Sort} {s : St
       let place : r.child1.0 ≡ c = ap (λ (r : TermRecord). r.child1.0) er in
       says 24 c (ee ∙ (λ z. record { number = 24; place = place z })) (doing_stop (refusal 24 c) (told (sort.Datatype d) q) refl)
 
-  module _ (b : Proposition) (eb : t ≡ sort.Proposition b) (ps : List ℕ) (ab : Abstracted) (ia₀ : AbstractedAs l R.props ps k₂ r.name1.0 i.0 S b.0 s ab) where
-    ia : AbstractedAs l R.props ps k₂ (term_record l k₂).name1.0 i.0 S b.0 s ab
-    ia = subst (λ (r : TermRecord). AbstractedAs l R.props ps k₂ r.name1.0 i.0 S b.0 s ab) er ia₀
+  module _ (b : Proposition) (eb : t ≡ sort.Proposition b) (ps : List ℕ) where
+    named : (o : Result Abstraction Refusal) → AbstractedAs l R.props ps k₂ r.name1.0 i.0 S b.0 s o → AbstractedAs l R.props ps k₂ (term_record l k₂).name1.0 i.0 S b.0 s o
+    named o m = subst (λ (r : TermRecord). AbstractedAs l R.props ps k₂ r.name1.0 i.0 S b.0 s o) er m
 
     concluding : Doing l R₀ k₂ w f.start R s (abstracted k₂ (term_record l k₂).name1.0 i.0 A (room_at (props l) R.props b.0)) tt a.used a.own a.wide
     unfolding on_prop
     concluding = told (sort.Proposition b) eb
 
-    pub abstracts_full : (e : Refusal) → ab ≡ abstraction.Refused e → Refuses (run_of l R₀ k₂ w f.start) e
-    abstracts_full e q = doing_stop (refusal_of e) concluding (subst (AbstractedAs l R.props ps k₂ (term_record l k₂).name1.0 i.0 S b.0 s) q ia tt)
+    pub abstracts_full : (e : Refusal) → AbstractedAs l R.props ps k₂ r.name1.0 i.0 S b.0 s (Err e) → Refuses (run_of l R₀ k₂ w f.start) e
+    abstracts_full e m = doing_stop (refusal_of e) concluding (named (Err e) m tt)
 
-    pub abstracts_to : (n : ℕ) (m : Proposition) (s₁ : State) → ab ≡ abstraction.To n m s₁ → Resumed l R₀ f (rooms R.tree R.goals ps R.work) (left.Closes n i) (sort.Proposition m) s₁
-    abstracts_to n m s₁ q =
-        let made : AbstractedTo l R.props ps k₂ (term_record l k₂).name1.0 i.0 S b.0 s n m.0 s₁ = subst (AbstractedAs l R.props ps k₂ (term_record l k₂).name1.0 i.0 S b.0 s) q ia in
+    pub abstracts_to : (o : Abstraction) → AbstractedAs l R.props ps k₂ r.name1.0 i.0 S b.0 s (Ok o) → Resumed l R₀ f (rooms R.tree R.goals ps R.work) (left.Closes o.rule i) (sort.Proposition o.whole) o.state
+    abstracts_to o m =
+        let made : AbstractedTo l R.props ps k₂ (term_record l k₂).name1.0 i.0 S b.0 s (rule_number o.rule) o.whole.0 o.state = named (Ok o) m in
         turned a made.stands
-        (doing_same (ap (λ (A : Ty). by n k₂ A (i.0 ∷ [])) (sym (answered_synth l R₀.props a.holds.2 (prop made.whole))))
+        (doing_same (ap (λ (A : Ty). by (rule_number o.rule) k₂ A (i.0 ∷ [])) (sym (answered_synth l R₀.props a.holds.2 (prop made.whole))))
         (doing_step _ 0 concluding (making_left R made.making) (making_made made.making) (making_serials made.making) (made.goes tt)))
         (omega arith) a.holds.1 tt

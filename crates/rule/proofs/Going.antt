@@ -8,6 +8,7 @@ use Rattle.numbers.specs.declared.Name.{Name}
 use Rattle.numbers.specs.declared.Sort.{Sort}
 use Rattle.numbers.specs.declared.Term.{Term as Place}
 use Rattle.numbers.specs.declared.record.Record.{Record}
+use Rattle.std.specs.declared.result.Result.TheVariants.{Ok, Err}
 use Rattle.numbers.specs.declared.refusal.Refusal.{Refusal}
 use Rattle.numbers.specs.Records.{Put}
 use Rattle.layout.specs.declared.record.TermRecord.{TermRecord}
@@ -24,10 +25,9 @@ use Rattle.context.specs.Context.{Inserted, most_entries}
 use Rattle.step.specs.declared.state.State.{State}
 use Rattle.step.specs.declared.state.Want.{Want}
 use Rattle.step.specs.declared.state.Want.TheVariants as want
-use Rattle.step.specs.declared.state.Ran.TheVariants as ran
 use Rattle.step.specs.Rooms.{Rooms, rooms, reads, ctx_of, count_of, leaving, numbered, deeper, Stands, Entries, Base}
 use Rattle.step.specs.Modes.{mode, WantIn, answer_of, number_of}
-use Rattle.step.specs.Trees.{node_rec, first_serial, second_serial}
+use Rattle.step.specs.Trees.{rule_number, node_rec, first_serial, second_serial}
 use Rattle.step.specs.Contract.{Ready, Grown, Refuses, RanAs}
 use Rattle.step.specs.Under.{Doing}
 use Rattle.step.proofs.Frames.{type_kept}
@@ -36,10 +36,9 @@ use Rattle.step.proofs.Moves.{entered_left, entered_entries, entered_ctx}
 use Rattle.rule.specs.declared.next.Rest.{Rest}
 use Rattle.rule.specs.declared.next.Rest.TheVariants as rest
 use Rattle.rule.specs.declared.next.Rule.{Rule}
-use Rattle.rule.specs.declared.next.Next.{Next}
 use Rattle.rule.specs.declared.next.Next.TheVariants as next
 use Rattle.rule.specs.Reading.{after, arity, kids, weight, Inside, pairing, judging, abstracting, instancing, arming, program}
-use Rattle.rule.specs.Going.{Holds, Γ₀, Asked, Resumed, NextIs, Resumes, Fresh, FreshTwo, Held}
+use Rattle.rule.specs.Going.{Holds, Γ₀, Asked, Resumed, NextIs, Fresh, FreshTwo, Held}
 
 -- A REFUSAL that was made of its number and place
 pub says : {X : Type 0} {o : Out X} {r : Refusal} (n p : ℕ) → r ≡ record { number = n; place = p } → o ≡ refused n p → Refuses o r
@@ -60,7 +59,7 @@ answered_synth l ps e A = ap (λ (w : Want). answered (mode l ps w) A) e
 module _ (l ps ps' : List ℕ) (k : ℕ) (w : Mode) (Γ : Ctx) (c own wide : ℕ) (v : Want) (types : (T : Sort) → TypeIn c T → reads l ps' T ≡ reads l ps T) (same : (n : ℕ) → n < c → room_at (props l) ps' n ≡ room_at (props l) ps n) where
   program_kept : (q : Rest) → Holds c own wide v q → (B : Ty) → program l ps k w Γ q B ≡ program l ps' k w Γ q B
   program_kept (rest.By n m) h B = refl
-  program_kept (rest.Right n b) h B = ap (λ (P : Prop). ask (check (prop P)) Γ λ C. by n k (answered w C) []) (sym (same b.0 h.0))
+  program_kept (rest.Right n b) h B = ap (λ (P : Prop). ask (check (prop P)) Γ λ C. by (rule_number n) k (answered w C) []) (sym (same b.0 h.0))
   program_kept rest.Second h B = refl
   program_kept (rest.Both S) h B = ap (λ (A : Ty). pairing k A B) (sym (types S h.0))
   program_kept rest.Part h B = refl
@@ -131,7 +130,7 @@ module _ {l : List ℕ} {R₀ : Rooms} {f : Rule} {R : Rooms} {q : Rest} {x : �
       (subst⁻¹ (λ (n : ℕ). Entries R.work n (count_of l s)) none (doing_base rd.base d).entries)
 
   -- IT HAS ANSWERED
-  pub went : {s : State} → Asked l R₀ f R q x v s → {R₁ : Rooms} {T : Sort} {s₁ : State} → RanAs l R R₁ x v s (ran.Has T s₁) → Resumed l R₀ f R₁ q T (leaving s₁ f.start.context)
+  pub went : {s : State} → Asked l R₀ f R q x v s → {R₁ : Rooms} {T : Sort} {s₁ : State} → RanAs l R R₁ x v s (Ok (record { typ = T; state = s₁ })) → Resumed l R₀ f R₁ q T (leaving s₁ f.start.context)
   went {s} a {R₁} {s₁ = s₁} m =
       let grown : Grown R R₁ (count_of l s) (count_of l s₁) s.records s.goals s.context s.asked = m.accepted.left.grown in
       let g = doing_went x s.context a.doing a.deep refl refl v refl R₁ m in
@@ -153,14 +152,14 @@ module _ {l : List ℕ} {R₀ : Rooms} {f : Rule} {R : Rooms} {q : Rest} {x : �
       }
 
   -- OR IT WAS REFUSED
-  pub stopped : {s : State} → Asked l R₀ f R q x v s → (R₁ : Rooms) (r : Refusal) → RanAs l R R₁ x v s (ran.Refused r) → RanAs l R₀ R₁ f.term.0 f.want f.start (ran.Refused r)
+  pub stopped : {s : State} → Asked l R₀ f R q x v s → (R₁ : Rooms) (r : Refusal) → RanAs l R R₁ x v s (Err r) → RanAs l R₀ R₁ f.term.0 f.want f.start (Err r)
   stopped {s} a R₁ r m = doing_refused x s.context a.doing a.deep refl refl v refl R₁ r m
 
 -- the answer that asks for it: the child as the term's record has it, the counts as they were made
 pub asking : {l : List ℕ} {R₀ R : Rooms} {f : Rule} {q : Rest} {v : Want} {s : State} (j : ℕ) (child : TermRecord → Place) (r : TermRecord) → r ≡ term_record l f.term.0 → (s₁ : State) → s₁ ≡ s → Asked l R₀ f R q (child (term_record l f.term.0)).0 v s
-    → length (after (term_record l f.term.0) q) < j → NextIs l R₀ f.term.0 f.want f.start j R (next.Ask f q (child r) v s₁)
+    → length (after (term_record l f.term.0) q) < j → NextIs l R₀ f.term.0 f.want f.start j R (Ok (next.Ask q (child r) v s₁))
 asking {l} {R₀} {R} {f} {q} {v} {s} j child r er s₁ es a less =
-    (subst⁻¹ (λ (r : TermRecord). Asked l R₀ f R q (child r).0 v s₁) er (subst⁻¹ (Asked l R₀ f R q (child (term_record l f.term.0)).0 v) es a), (refl, less), λ R' r m. m)
+    (subst⁻¹ (λ (r : TermRecord). Asked l R₀ f R q (child r).0 v s₁) er (subst⁻¹ (Asked l R₀ f R q (child (term_record l f.term.0)).0 v) es a), less)
 
 -- IN THE RULE'S OWN MODE
 module _ {l : List ℕ} {R₀ : Rooms} {k : ℕ} {st₀ : State} {R : Rooms} {s : State} {a : Arity} {p : Prog a} {ks : Kids a} {used own wide : ℕ} where
@@ -237,7 +236,7 @@ module _ {l : List ℕ} {R₀ : Rooms} {f : Rule} {R : Rooms} {T : Sort} {s : St
 pub concludes : {l : List ℕ} {R₀ : Rooms} (f : Rule) {R : Rooms} {s : State} {A B : Ty} {n : ℕ} {is : List ℕ} {used own wide : ℕ} (S U : Sort)
     → Doing l R₀ f.term.0 (mode l R₀.props f.want) f.start R s (conclude B (record { rule = n; term = f.term.0; concludes = A; serials = is } ∷ [])) tt used own wide → Stands l R.props (count_of l s) S A
     → Stands l R.props (count_of l s) U (answered (mode l R₀.props f.want) B) → {nd : Record} {tr : List ℕ} → nd ≡ node_rec n f.term.0 S (first_serial is) (second_serial is) wide → Put R.tree f.start.records nd tr
-    → RanAs l R₀ (rooms tr R.goals R.props R.work) f.term.0 f.want f.start (ran.Has U s)
+    → RanAs l R₀ (rooms tr R.goals R.props R.work) f.term.0 f.want f.start (Ok (record { typ = U; state = s }))
 concludes f S U d stands answers e put = doing_has d {T = S} stands e put answers
 
 -- of what is answered
@@ -249,7 +248,7 @@ answered_twice (check E) B = refl
 module _ {l : List ℕ} {R₀ : Rooms} {f : Rule} {R : Rooms} {T : Sort} {s : State} {q : Rest} (a : Resumed l R₀ f R q T s) where
   pub ends_with : (is : List ℕ) {n used own wide : ℕ} → Doing l R₀ f.term.0 (mode l R₀.props f.want) f.start R s (by n f.term.0 (answered (mode l R₀.props f.want) a.typ) is) tt used own wide
       → (found : Sort) → found ≡ answer_of f.want T → (nd : Record) → nd ≡ node_rec n f.term.0 found (first_serial is) (second_serial is) wide → (tr : List ℕ) → Put R.tree f.start.records nd tr
-      → RanAs l R₀ (rooms tr R.goals R.props R.work) f.term.0 f.want f.start (ran.Has found s)
+      → RanAs l R₀ (rooms tr R.goals R.props R.work) f.term.0 f.want f.start (Ok (record { typ = found; state = s }))
   unfolding by
   ends_with is d found ef nd en tr put =
       let w = mode l R₀.props f.want in
@@ -274,10 +273,6 @@ module _ {l : List ℕ} {R₀ : Rooms} {f : Rule} {R : Rooms} {T : Sort} {s : St
         holds = holds;
         others = inside;
       }
-
--- A REST THAT WAS TOLD by a match
-pub resumes_as : {l : List ℕ} {R R' : Rooms} {f : Rule} {q q' : Rest} {T : Sort} {s : State} {n : Next} → q ≡ q' → Resumes l R R' f q' T s n → Resumes l R R' f q T s n
-resumes_as {l} {R} {R'} {f} {T = T} {s = s} {n = n} e r = subst⁻¹ (λ (q : Rest). Resumes l R R' f q T s n) e r
 
 -- what the pieces ask of a rest
 pub held : {l : List ℕ} {R₀ : Rooms} {f : Rule} {R : Rooms} {T : Sort} {s : State} (q : Rest) → Resumed l R₀ f R q T s → Held (count_of l s) R.work s q

@@ -5,6 +5,9 @@ use mathlib.Core.List.{List, [], ◌∷◌}
 use mathlib.Core.Option.{Option, none as no-entry, some}
 use Prim.Native.Nat.{ℕ, ◌+◌}
 use native.Mathlib.Omega.{arith}
+use Rattle.std.specs.declared.option.Option.{Option as Optional}
+use Rattle.std.specs.declared.option.Option.TheVariants.{Some, None}
+use Rattle.std.specs.declared.result.Result.TheVariants.{Ok}
 use Rattle.numbers.specs.declared.Proposition.{Proposition}
 use Rattle.numbers.specs.declared.Sort.{Sort}
 use Rattle.numbers.specs.declared.Sort.TheVariants as sort
@@ -22,19 +25,15 @@ use Rattle.rules.specs.State.{limit}
 use Rattle.rules.specs.Step.{answered, Want, synth, check, refusal, ok, done, Prog, refuse, make, obey, on_found, look_up}
 use Rattle.rules.specs.Rules.{by, ident_synth, ident_step, unit_step, leaf_step, sorry_run, run}
 use Rattle.table.specs.Reading.{term_at}
-use Rattle.arena.specs.declared.make.Made.{Made}
-use Rattle.arena.specs.declared.make.Made.TheVariants.{At, Full}
+use Rattle.arena.specs.declared.copy.Copied.{Copied}
 use Rattle.arena.specs.Make.{ConstantIs}
 use Rattle.prop.specs.Room.{type_at, TypeIn}
 use Rattle.context.specs.declared.identifier_context.Entry.{Entry}
-use Rattle.context.specs.declared.identifier_context.Found.{Found}
-use Rattle.context.specs.declared.identifier_context.Found.TheVariants.{Held, Nothing}
 use Rattle.context.specs.Context.{stands, Latest}
 use Rattle.context.proofs.Laws.{ctx_length, held_finds, nothing_finds, held_has}
 use Rattle.step.specs.declared.node.Goal.{Goal}
 use Rattle.step.specs.declared.state.State.{State}
 use Rattle.step.specs.declared.state.Want.TheVariants as want
-use Rattle.step.specs.declared.state.Ran.TheVariants as ran
 use Rattle.step.specs.Rooms.{Rooms, rooms, reads, ctx_of, st_of, count_of, inner, Stands}
 use Rattle.step.specs.Trees.{node_rec, goal_rec, PutGoal, TreesAre}
 use Rattle.step.specs.Picture.{PicturesAre, Pictured}
@@ -65,10 +64,10 @@ module _ {l : List ℕ} {R : Rooms} {k : ℕ} {st : State} (rd : Ready l R k st)
     unit_doing c e = leaf_doing (check A) Leaf.unit _ (is_unit rd.base.table rd.here kind) (ap (λ (d : Bool). cond d (by 1 k A []) (refuse 11 k)) (sym (is (props l)) ∙ e))
 
     pub unit_fits : b ≡ true → (nd : Record) (tr : List ℕ) (s : State) → nd ≡ node_rec 1 k wanted none none 0 → Put R.tree st.records nd tr → s ≡ inner st
-        → RanAs l R (rooms tr R.goals R.props R.work) k (want.Check wanted) st (ran.Has wanted s)
+        → RanAs l R (rooms tr R.goals R.props R.work) k (want.Check wanted) st (Ok (record { typ = wanted; state = s }))
     unfolding by answered
     unit_fits e nd tr s en put es =
-        subst⁻¹ (λ (s : State). RanAs l R (rooms tr R.goals R.props R.work) k (want.Check wanted) st (ran.Has wanted s)) es
+        subst⁻¹ (λ (s : State). RanAs l R (rooms tr R.goals R.props R.work) k (want.Check wanted) st (Ok (record { typ = wanted; state = s }))) es
         (doing_has (unit_doing true e) {T = wanted} (record { among = among; means = refl }) en put (record { among = among; means = refl }))
 
     pub unit_other : b ≡ false → (r : Refusal) → r ≡ record { number = 11; place = k } → Refuses (run_of l R k (check A) st) r
@@ -121,18 +120,18 @@ module _ {l : List ℕ} {R : Rooms} {k : ℕ} {st : State} (rd : Ready l R k st)
           }
 
       pub sorry_fits : (s : State) → s ≡ record { records = st.records + 1; goals = st.goals + 1; serials = st.serials; made = st.made; context = st.context; asked = st.asked }
-          → RanAs l R (rooms tr gs R.props work) k (want.Check wanted) st (ran.Has wanted s)
+          → RanAs l R (rooms tr gs R.props work) k (want.Check wanted) st (Ok (record { typ = wanted; state = s }))
       sorry_fits s es =
-          subst⁻¹ (λ (s : State). RanAs l R (rooms tr gs R.props work) k (want.Check wanted) st (ran.Has wanted s)) es
+          subst⁻¹ (λ (s : State). RanAs l R (rooms tr gs R.props work) k (want.Check wanted) st (Ok (record { typ = wanted; state = s }))) es
           (record {
             accepted = record { answer = record { ty = reads l R.props wanted; tree = hole }; accepts = sorry_answers; left = sorry_left };
             type = record { among = among; means = refl };
           })
 
   -- IDENT, asked for its type
-  module _ (kind : (term_record l k).kind ≡ 0) (r : TermRecord) (er : r ≡ term_record l k) (f : Found) (latest : Latest R.work st.context r.name1.0 f) where
-    is : Latest R.work st.context (term_record l k).name1.0 f
-    is = subst (λ (r : TermRecord). Latest R.work st.context r.name1.0 f) er latest
+  module _ (kind : (term_record l k).kind ≡ 0) (r : TermRecord) (er : r ≡ term_record l k) where
+    named : (f : Optional Entry) → Latest R.work st.context r.name1.0 f → Latest R.work st.context (term_record l k).name1.0 f
+    named f latest = subst (λ (r : TermRecord). Latest R.work st.context r.name1.0 f) er latest
 
     ident_doing : (o : Option Hypothesis) → find (term_record l k).name1.0 Γ ≡ o → Doing l R k synth st R (inner st) (on_found o (λ e. by 0 k e.ty (e.serial ∷ [])) (refuse 20 k)) tt 0 0 0
     unfolding leaf_step ident_step ident_synth look_up
@@ -140,38 +139,42 @@ module _ {l : List ℕ} {R : Rooms} {k : ℕ} {st : State} (rd : Ready l R k st)
         leaf_doing synth (Leaf.ident (term_record l k).name1.0) _ (is_ident rd.base.table rd.here kind)
         (ap (λ (o : Option Hypothesis). on_found o (λ e. by 0 k e.ty (e.serial ∷ [])) (refuse 20 k)) e)
 
-    pub ident_unknown : f ≡ Nothing → (x : Refusal) → x ≡ record { number = 20; place = k } → Refuses (run_of l R k synth st) x
+    pub ident_unknown : Latest R.work st.context r.name1.0 None → (x : Refusal) → x ≡ record { number = 20; place = k } → Refuses (run_of l R k synth st) x
     unfolding obey on_found
-    ident_unknown e x ex = says 20 k ex (doing_stop (refusal 20 k) (ident_doing no-entry (nothing_finds (reads l R.props) is e)) refl)
+    ident_unknown latest x ex = says 20 k ex (doing_stop (refusal 20 k) (ident_doing no-entry (nothing_finds (reads l R.props) (named None latest) refl)) refl)
 
-    pub ident_has : (e : Entry) → f ≡ Held e → (nd : Record) (tr : List ℕ) (s : State) → nd ≡ node_rec 0 k e.typ e.serial.0 none 0 → Put R.tree st.records nd tr → s ≡ inner st
-        → RanAs l R (rooms tr R.goals R.props R.work) k want.Synth st (ran.Has e.typ s)
+    pub ident_has : (e : Entry) → Latest R.work st.context r.name1.0 (Some e) → (nd : Record) (tr : List ℕ) (s : State) → nd ≡ node_rec 0 k e.typ e.serial.0 none 0 → Put R.tree st.records nd tr → s ≡ inner st
+        → RanAs l R (rooms tr R.goals R.props R.work) k want.Synth st (Ok (record { typ = e.typ; state = s }))
     unfolding by on_found answered
-    ident_has e q nd tr s en put es =
+    ident_has e latest nd tr s en put es =
+        let is = named (Some e) latest in
         let means : Stands l R.props (count_of l st) e.typ (reads l R.props e.typ) =
-        record { among = held_has (λ (e : Entry). TypeIn (count_of l st) e.typ) is q rd.base.entries; means = refl } in
-        subst⁻¹ (λ (s : State). RanAs l R (rooms tr R.goals R.props R.work) k want.Synth st (ran.Has e.typ s)) es
-        (doing_has (ident_doing (some (stands (reads l R.props) e)) (held_finds (reads l R.props) is q)) {T = e.typ} means en put {U = e.typ} means)
+        record { among = held_has (λ (e : Entry). TypeIn (count_of l st) e.typ) is refl rd.base.entries; means = refl } in
+        subst⁻¹ (λ (s : State). RanAs l R (rooms tr R.goals R.props R.work) k want.Synth st (Ok (record { typ = e.typ; state = s }))) es
+        (doing_has (ident_doing (some (stands (reads l R.props) e)) (held_finds (reads l R.props) is refl)) {T = e.typ} means en put {U = e.typ} means)
 
   -- UNIT, asked for its type
-  module _ (kind : (term_record l k).kind ≡ 11) (new : List ℕ) (c left : ℕ) (o : Made) (ec : c ≡ count_of l st) (el : left + st.made ≡ limit) (is : ConstantIs true R.props c left new o) where
+  module _ (kind : (term_record l k).kind ≡ 11) (new : List ℕ) (c left : ℕ) (ec : c ≡ count_of l st) (el : left + st.made ≡ limit) where
     true_doing : Doing l R k synth st R (inner st) (make 1 k (by 1 k (prop (const made true)) [])) tt 0 0 0
     unfolding leaf_step unit_step
     true_doing = leaf_doing synth Leaf.unit _ (is_unit rd.base.table rd.here kind) refl
 
-    pub true_full : o ≡ Full → (r : Refusal) → r ≡ record { number = 30; place = k } → Refuses (run_of l R k synth st) r
-    true_full q r er = says 30 k er (doing_stop (refusal 30 k) true_doing (full_stops l R.props new c left (inner st) _ _ o ec el is q k (by 1 k (prop (const made true)) []) tt))
+    pub true_full : ConstantIs true R.props c left new None → (r : Refusal) → r ≡ record { number = 30; place = k } → Refuses (run_of l R k synth st) r
+    true_full is r er = says 30 k er (doing_stop (refusal 30 k) true_doing (full_stops l R.props new c left (inner st) (λ t. 1) (λ t. const made true) None ec el is refl k (by 1 k (prop (const made true)) []) tt))
 
-    module _ (s : State) (m : Proposition) (e : ℕ) (q : o ≡ At m e) (grown : GrownTo st c e s) where
+    module _ (s : State) (o : Copied) (is : ConstantIs true R.props c left new (Some o)) (grown : GrownTo st c o.count s) where
+      abbrev m : Proposition
+      m = o.at
+
       true_made : MadeFor l R.props new (inner st) (inner s) 1 (const made true) m
-      true_made = made_for l R.props new c left (inner st) _ _ o ec el is (inner s) m e q (grown.0, ap (λ (n : ℕ). n + 1) grown.1, grown.2, grown.3, grown.4, grown.5)
+      true_made = made_for l R.props new c left (inner st) _ _ (Some o) ec el is (inner s) o refl (grown.0, ap (λ (n : ℕ). n + 1) grown.1, grown.2, grown.3, grown.4, grown.5)
 
       pub true_has : (nd : Record) (tr : List ℕ) (s₁ : State) → nd ≡ node_rec 1 k (sort.Proposition m) none none 0 → Put R.tree st.records nd tr → s₁ ≡ inner s
-          → RanAs l R (rooms tr R.goals new R.work) k want.Synth st (ran.Has (sort.Proposition m) s₁)
+          → RanAs l R (rooms tr R.goals new R.work) k want.Synth st (Ok (record { typ = sort.Proposition m; state = s₁ }))
       unfolding by answered
       true_has nd tr s₁ en put es =
           let mk = true_made.making in
           let stands = true_made.stands in
-          subst⁻¹ (λ (s : State). RanAs l R (rooms tr R.goals new R.work) k want.Synth st (ran.Has (sort.Proposition m) s)) es
+          subst⁻¹ (λ (s : State). RanAs l R (rooms tr R.goals new R.work) k want.Synth st (Ok (record { typ = sort.Proposition m; state = s }))) es
           (doing_has (doing_step (by 1 k (prop (const made true)) []) 0 true_doing (making_left R mk) mk.within (making_serials mk) (made_goes true_made k (by 1 k (prop (const made true)) []) tt))
           {T = sort.Proposition m} stands en put {U = sort.Proposition m} stands)

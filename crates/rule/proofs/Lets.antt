@@ -3,6 +3,8 @@ use mathlib.Core.Path.{◌≡◌, refl, ap, sym, subst, subst⁻¹, ◌∙◌}
 use mathlib.Core.List.{List, [], ◌∷◌}
 use Prim.Native.Nat.{ℕ, ◌+◌}
 use native.Mathlib.Omega.{arith}
+use Rattle.std.specs.declared.result.Result.{Result}
+use Rattle.std.specs.declared.result.Result.TheVariants.{Ok, Err}
 use Rattle.numbers.specs.declared.Serial.{Serial}
 use Rattle.numbers.specs.declared.Sort.{Sort}
 use Rattle.numbers.specs.declared.Term.{Term as Place}
@@ -21,11 +23,6 @@ use Rattle.context.proofs.Laws.{ctx_same}
 use Rattle.step.specs.declared.state.State.{State}
 use Rattle.step.specs.declared.state.Want.{Want}
 use Rattle.step.specs.declared.state.Want.TheVariants as want
-use Rattle.step.specs.declared.state.Ran.TheVariants as ran
-use Rattle.step.specs.declared.open.Entered.{Entered}
-use Rattle.step.specs.declared.open.Entered.TheVariants as entered
-use Rattle.step.specs.declared.open.Closed.{Closed}
-use Rattle.step.specs.declared.open.Closed.TheVariants as closed
 use Rattle.step.specs.Rooms.{Rooms, rooms, reads, ctx_of, count_of, inner, leaving, Stands, Entries}
 use Rattle.step.specs.Modes.{mode, WantIn, answer_of, number_of}
 use Rattle.step.specs.Trees.{node_rec, TreesAre}
@@ -54,8 +51,7 @@ let_begins {l} {R} {k} {st} {w} rd kind wants =
     (omega arith) (omega (arith, double_nodes (is_let t rd.here kind))) (refl, refl) (let_first t rd.here kind, (let_second t rd.here kind, tt)) tt
 
 -- THE BODY, once the head is opened
-module _ {l : List ℕ} {R₀ : Rooms} {f : Rule} {R : Rooms} {t : Sort} {s : State} (a : Resumed l R₀ f R rest.LetBody t s) (r : TermRecord) (er : r ≡ term_record l f.term.0) (ps' work' : List ℕ) (o : Entered)
-    (m₀ : EnteredAs l R.props R.work ps' work' r.name1.0 r.name2.0 f.want t f.term.0 r.child1.0 s o) where
+module _ {l : List ℕ} {R₀ : Rooms} {f : Rule} {R : Rooms} {t : Sort} {s : State} (a : Resumed l R₀ f R rest.LetBody t s) (r : TermRecord) (er : r ≡ term_record l f.term.0) (ps' work' : List ℕ) where
   abbrev k : ℕ
   k = f.term.0
 
@@ -74,24 +70,23 @@ module _ {l : List ℕ} {R₀ : Rooms} {f : Rule} {R : Rooms} {t : Sort} {s : St
   abbrev y : ℕ
   y = (term_record l k).name2.0
 
-  m : EnteredAs l R.props R.work ps' work' x y f.want t k c₁ s o
-  m = subst (λ (r : TermRecord). EnteredAs l R.props R.work ps' work' r.name1.0 r.name2.0 f.want t k r.child1.0 s o) er m₀
-
   abbrev within : (i j D : ℕ) → Prop → Prog one
   within i j D B = ask w (entry y j (prop B) ∷ entry x i (datatype D) ∷ Γ₀ l R₀ f) λ T. let_close k c₂ i j w T
 
   head : Doing l R₀ k w f.start R s (let_opening (number_of f.want 12 22) k c₁ (reads l R.props t) within) (kid_at l c₂, tt) a.used a.own a.wide
   head = doing_same (λ z. let_opening (of_number l R₀.props f.want 12 22 z) k c₁ (sym a.stands.means z) within) a.doing
 
-  pub let_refused : (e : Refusal) → o ≡ entered.Refused e → Refuses (run_of l R₀ k w f.start) e
-  let_refused e q = doing_stop (refusal_of e) head (subst (EnteredAs l R.props R.work ps' work' x y f.want t k c₁ s) q m one within (kid_at l c₂, tt))
+  pub let_refused : (e : Refusal) → EnteredAs l R.props R.work ps' work' r.name1.0 r.name2.0 f.want t k r.child1.0 s (Err e) → Refuses (run_of l R₀ k w f.start) e
+  let_refused e m =
+      let says = subst (λ (r : TermRecord). EnteredAs l R.props R.work ps' work' r.name1.0 r.name2.0 f.want t k r.child1.0 s (Err e)) er m in
+      doing_stop (refusal_of e) head (says one within (kid_at l c₂, tt))
 
-  module _ (s₁ : State) (q : o ≡ entered.In s₁) where
+  module _ (s₁ : State) (m : LetEntered l R.props R.work ps' work' r.name1.0 r.name2.0 f.want t k r.child1.0 s s₁) where
     abbrev R₂ : Rooms
     R₂ = rooms R.tree R.goals ps' work'
 
     new : LetEntered l R.props R.work ps' work' x y f.want t k c₁ s s₁
-    new = subst (EnteredAs l R.props R.work ps' work' x y f.want t k c₁ s) q m
+    new = subst (λ (r : TermRecord). LetEntered l R.props R.work ps' work' r.name1.0 r.name2.0 f.want t k r.child1.0 s s₁) er m
 
     abbrev s' : State
     s' = leaving s₁ s.context
@@ -150,8 +145,7 @@ module _ {l : List ℕ} {R₀ : Rooms} {f : Rule} {R : Rooms} {t : Sort} {s : St
         (subst (λ (n : ℕ). Entries work' n (count_of l s₁)) two_more (new.entries (doing_base a.begun.base a.doing).entries))
 
 -- THE END, of what the body has
-module _ {l : List ℕ} {R₀ : Rooms} {f : Rule} {R : Rooms} {t : Sort} {s : State} {i j : Serial} (a : Resumed l R₀ f R (rest.LetEnd i j) t s) (r : TermRecord) (er : r ≡ term_record l f.term.0) (o : Closed)
-    (m₀ : ClosedAs l R.props f.want r.child2.0 i.0 t s o) where
+module _ {l : List ℕ} {R₀ : Rooms} {f : Rule} {R : Rooms} {t : Sort} {s : State} {i j : Serial} (a : Resumed l R₀ f R (rest.LetEnd i j) t s) (r : TermRecord) (er : r ≡ term_record l f.term.0) where
   abbrev k₂ : ℕ
   k₂ = f.term.0
 
@@ -164,20 +158,20 @@ module _ {l : List ℕ} {R₀ : Rooms} {f : Rule} {R : Rooms} {t : Sort} {s : St
   abbrev last : Prog done
   last = by 14 k₂ a.typ (i.0 ∷ j.0 ∷ [])
 
-  shuts : ClosedAs l R.props f.want c i.0 t s o
-  shuts = subst (λ (r : TermRecord). ClosedAs l R.props f.want r.child2.0 i.0 t s o) er m₀
+  shuts : (o : Result (Unit {0}) Refusal) → ClosedAs l R.props f.want r.child2.0 i.0 t s o → ClosedAs l R.props f.want c i.0 t s o
+  shuts o m = subst (λ (r : TermRecord). ClosedAs l R.props f.want r.child2.0 i.0 t s o) er m
 
   ending : Doing l R₀ k₂ v f.start R s (closes l R.props f.want c i.0 t last) tt a.used a.own a.wide
   unfolding let_close
   ending = doing_same (λ z. closing (of_number l R₀.props f.want 13 24 z) (of_number l R₀.props f.want 16 27 z) c i.0 (sym a.stands.means z) last) a.doing
 
-  pub let_kept : (e : Refusal) → o ≡ closed.Refused e → Refuses (run_of l R₀ k₂ v f.start) e
-  let_kept e q = doing_stop (refusal_of e) ending (subst (ClosedAs l R.props f.want c i.0 t s) q shuts done last tt)
+  pub let_kept : (e : Refusal) → ClosedAs l R.props f.want r.child2.0 i.0 t s (Err e) → Refuses (run_of l R₀ k₂ v f.start) e
+  let_kept e m = doing_stop (refusal_of e) ending (shuts (Err e) m done last tt)
 
-  pub let_done : o ≡ closed.Shut → (nd : Record) → nd ≡ node_rec 14 k₂ t i.0 j.0 2 → (tr : List ℕ) → Put R.tree f.start.records nd tr → (found : Sort) → found ≡ answer_of f.want t
-      → RanAs l R₀ (rooms tr R.goals R.props R.work) k₂ f.want f.start (ran.Has found s)
+  pub let_done : ClosedAs l R.props f.want r.child2.0 i.0 t s (Ok tt) → (nd : Record) → nd ≡ node_rec 14 k₂ t i.0 j.0 2 → (tr : List ℕ) → Put R.tree f.start.records nd tr → (found : Sort) → found ≡ answer_of f.want t
+      → RanAs l R₀ (rooms tr R.goals R.props R.work) k₂ f.want f.start (Ok (record { typ = found; state = s }))
   unfolding by
-  let_done q nd en tr put found ef =
-      let whole = doing_step last 0 ending (left_none ending.left.grown.arena) ending.made (omega arith) (subst (ClosedAs l R.props f.want c i.0 t s) q shuts done last tt) in
+  let_done m nd en tr put found ef =
+      let whole = doing_step last 0 ending (left_none ending.left.grown.arena) ending.made (omega arith) (shuts (Ok tt) m done last tt) in
       concludes f t found whole a.stands (subst⁻¹ (λ (U : Sort). Stands l R.props (count_of l s) U (answered v a.typ)) ef (answer_stands a))
       (en ∙ ap (node_rec 14 k₂ t i.0 j.0) (sym a.holds)) put

@@ -1,5 +1,6 @@
 -- OrLeft and OrRight, held to a type. Assumes nothing.
-use mathlib.Core.Path.{◌≡◌, refl, ap, sym, subst, ◌∙◌}
+use Rattle.step.specs.declared.inference.Inference.TheVariants as inference
+use mathlib.Core.Path.{◌≡◌, refl, ap, sym, ◌∙◌}
 use mathlib.Core.Bool.{Bool, true, false, cond}
 use mathlib.Core.List.{List, []}
 use mathlib.Core.Logic.{◌⊎◌, inl, inr}
@@ -23,10 +24,9 @@ use Rattle.rules.specs.Rules.{one, by, inject_step, single_step}
 use Rattle.table.specs.Reading.{term_at}
 use Rattle.prop.specs.Room.{room_at, TypeIn}
 use Rattle.prop.specs.declared.head.Parts.{Parts}
-use Rattle.prop.specs.declared.head.Parts.TheVariants as parts
 use Rattle.step.specs.declared.state.State.{State}
 use Rattle.step.specs.declared.state.Want.TheVariants as want
-use Rattle.prop.specs.Head.{Split, Unsplit, SplitAs}
+use Rattle.prop.specs.Head.{Split, Unsplit}
 use Rattle.step.specs.Rooms.{Rooms, reads, ctx_of, st_of, count_of, inner}
 use Rattle.step.specs.Contract.{Ready, Refuses, run_of}
 use Rattle.step.specs.Under.{rest, Doing, kid_at}
@@ -74,7 +74,7 @@ module _ {l : List ℕ} {R : Rooms} {k : ℕ} {st : State} (rd : Ready l R k st)
 
 -- AGAINST AN OR
 module _ {l : List ℕ} {R : Rooms} {k : Place} {st : State} (rd : Ready l R k.0 st) (wanted : Sort) (among : TypeIn (count_of l st) wanted) (kind : (6 < (term_record l k.0).kind) × ((term_record l k.0).kind < 9))
-    (count : ℕ) (ec : count ≡ count_of l st) (sp : Parts) (is : SplitAs or R.props count wanted sp) where
+    (count : ℕ) (ec : count ≡ count_of l st) where
   abbrev Γ : Ctx
   Γ = ctx_of l R.props R.work st.context
 
@@ -87,18 +87,20 @@ module _ {l : List ℕ} {R : Rooms} {k : Place} {st : State} (rd : Ready l R k.0
   abbrev c : ℕ
   c = (term_record l k.0).child1.0
 
-  pub or_other : sp ≡ parts.Other → (r : Refusal) → r ≡ record { number = 11; place = k.0 } → Refuses (run_of l R k.0 (check A) st) r
+  pub or_other : Unsplit or R.props wanted → (r : Refusal) → r ≡ record { number = 11; place = k.0 } → Refuses (run_of l R k.0 (check A) st) r
   unfolding inject_step obey
-  or_other e r er =
-      let bare : Unsplit or R.props wanted = subst (SplitAs or R.props count wanted) e is in
+  or_other bare r er =
       says 11 k.0 er
       (injects rd kind (check A)
       ∙ ap (λ (q : Prog one). rest (check A) end (obey q (kid_at l c, tt) (st_of st))) (bare (props l) one _ _)
       ∙ rest_refused (check A) end (refusal 11 k.0))
 
-  module _ (a b : Proposition) (e : sp ≡ parts.Both a b) (r : TermRecord) (er : r ≡ term_record l k.0) where
-    split : Split or R.props count wanted a.0 b.0
-    split = subst (SplitAs or R.props count wanted) e is
+  module _ (o : Parts) (split : Split or R.props count wanted o.left.0 o.right.0) (r : TermRecord) (er : r ≡ term_record l k.0) where
+    abbrev a : Proposition
+    a = o.left
+
+    abbrev b : Proposition
+    b = o.right
 
     -- what is asked of the child, and which rule concludes
     abbrev part : Proposition → ℕ → Prog one
@@ -111,10 +113,10 @@ module _ {l : List ℕ} {R : Rooms} {k : Place} {st : State} (rd : Ready l R k.0
         (injects rd kind (check A)
         ∙ ap (λ (q : Prog one). rest (check A) end (obey q (kid_at l c, tt) (st_of st))) (split.goes (props l) one _ _ ∙ ap (λ (x : Bool). cond x (part a 7) (part b 8)) (ap (λ (r : TermRecord). eqb r.kind 7) (sym er) ∙ ex)))
 
-    pub or_first : eqb r.kind 7 ≡ true → Asked l R f R (left.By 7 1) c (want.Check (sort.Proposition a)) (inner st)
+    pub or_first : eqb r.kind 7 ≡ true → Asked l R f R (left.By inference.OrIntroFst 1) c (want.Check (sort.Proposition a)) (inner st)
     unfolding answered
     or_first ex = asks rd among (chosen true ex) (omega arith) (omega (arith, (child rd kind).1)) refl ((child rd kind).0, tt) (omega (arith, split.first))
 
-    pub or_second : eqb r.kind 7 ≡ false → Asked l R f R (left.By 8 1) c (want.Check (sort.Proposition b)) (inner st)
+    pub or_second : eqb r.kind 7 ≡ false → Asked l R f R (left.By inference.OrIntroSnd 1) c (want.Check (sort.Proposition b)) (inner st)
     unfolding answered
     or_second ex = asks rd among (chosen false ex) (omega arith) (omega (arith, (child rd kind).1)) refl ((child rd kind).0, tt) (omega (arith, split.second))

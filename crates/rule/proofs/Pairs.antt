@@ -1,8 +1,12 @@
 -- Pair, piece by piece. Assumes nothing.
+use Rattle.step.specs.declared.inference.Inference.TheVariants as inference
+use Rattle.step.specs.declared.inference.Inference.{Inference}
 use mathlib.Core.Path.{◌≡◌, refl, ap, sym, subst, ◌∙◌}
 use mathlib.Core.List.{List, []}
 use Prim.Native.Nat.{ℕ, ◌+◌, ◌<◌, ◌≤◌}
 use native.Mathlib.Omega.{arith}
+use Rattle.std.specs.declared.option.Option.TheVariants.{Some, None}
+use Rattle.std.specs.declared.result.Result.TheVariants.{Ok, Err}
 use Rattle.numbers.specs.declared.Name.{Name}
 use Rattle.numbers.specs.declared.Proposition.{Proposition}
 use Rattle.numbers.specs.declared.Serial.{Serial}
@@ -10,6 +14,7 @@ use Rattle.numbers.specs.declared.Sort.{Sort}
 use Rattle.numbers.specs.declared.Sort.TheVariants as sort
 use Rattle.numbers.specs.declared.Term.{Term as Place}
 use Rattle.numbers.specs.declared.refusal.Refusal.{Refusal}
+use Rattle.layout.specs.declared.record.TermRecord.{TermRecord}
 use Rattle.layout.specs.File.{props, terms, term_record}
 use Rattle.rules.specs.Prop.{made, and, ex, link, Ty, prop, datatype, Prop, put, size}
 use Rattle.rules.specs.State.{limit}
@@ -18,19 +23,14 @@ use Rattle.rules.specs.Tree.{end}
 use Rattle.rules.specs.Step.{synth, check, refusal, refuse, Prog, make, ask, obey, on_prop, on_quant, objected, answered}
 use Rattle.rules.specs.Rules.{one, two, by, pair_step, double_step}
 use Rattle.table.specs.Reading.{term_at}
-use Rattle.arena.specs.declared.make.Made.{Made}
-use Rattle.arena.specs.declared.make.Made.TheVariants.{At, Full}
+use Rattle.arena.specs.declared.copy.Copied.{Copied}
 use Rattle.arena.specs.Make.{LinkIs, PutIs}
 use Rattle.prop.specs.Room.{room_at, TypeIn}
 use Rattle.prop.specs.declared.head.Parts.{Parts}
-use Rattle.prop.specs.declared.head.Parts.TheVariants as parts
-use Rattle.prop.specs.declared.head.Quantified.{Quantified}
-use Rattle.prop.specs.declared.head.Quantified.TheVariants as quantified
+use Rattle.prop.specs.declared.head.Bound.{Bound}
 use Rattle.step.specs.declared.state.State.{State}
 use Rattle.step.specs.declared.state.Want.TheVariants as want
-use Rattle.step.specs.declared.open.Object.{Object}
-use Rattle.step.specs.declared.open.Object.TheVariants as object
-use Rattle.prop.specs.Head.{Split, Unsplit, SplitAs, Over, NotOver, OverAs}
+use Rattle.prop.specs.Head.{Split, Unsplit, Over, NotOver}
 use Rattle.step.specs.Rooms.{Rooms, rooms, reads, ctx_of, st_of, count_of, inner}
 use Rattle.step.specs.Modes.{mode}
 use Rattle.step.specs.Steps.{ObjectAs}
@@ -81,17 +81,16 @@ module _ {l : List ℕ} {R : Rooms} {k : Place} {st : State} (rd : Ready l R k.0
     unfolding double_step
     starts = double_begins l k.0 R (check A) st Double.pair c₁ c₂ (is_pair rd.base.table rd.here kind)
 
-    module _ (count : ℕ) (ec : count ≡ count_of l st) (p : Parts) (is : SplitAs and R.props count wanted p) where
+    module _ (count : ℕ) (ec : count ≡ count_of l st) where
       -- against an And: the left part is asked
-      pub pair_begins : (a b : Proposition) → p ≡ parts.Both a b → Asked l R f R (left.Right 2 b) c₁ (want.Check (sort.Proposition a)) (inner st)
+      pub pair_begins : (o : Parts) → Split and R.props count wanted o.left.0 o.right.0 → Asked l R f R (left.Right inference.AndIntro o.right) c₁ (want.Check (sort.Proposition o.left)) (inner st)
       unfolding pair_step answered
-      pair_begins a b e =
-          let split : Split and R.props count wanted a.0 b.0 = subst (SplitAs and R.props count wanted) e is in
+      pair_begins o split =
           asks rd among (doing_start _ (kid_at l c₁, (kid_at l c₂, tt)) rd (starts ∙ ap (λ (q : Prog two). rest (check A) end (obey q (kid_at l c₁, (kid_at l c₂, tt)) (st_of st))) (split.goes (props l) two _ _)))
           (omega arith) fits (omega (arith, split.second), refl, omega arith) inside (omega (arith, split.first))
 
     -- against an Exists
-    module _ (bare : Unsplit and R.props wanted) (count : ℕ) (ec : count ≡ count_of l st) (sp : Quantified) (is : OverAs ex R.props count wanted sp) where
+    module _ (bare : Unsplit and R.props wanted) (count : ℕ) (ec : count ≡ count_of l st) where
       abbrev opens : ℕ → Prop → ℕ → Prog two
       opens D B i = make (size B) k.0 (ask (check (datatype D)) (ctx_of l R.props R.work st.context) λ _. ask (check (prop (put i B))) (ctx_of l R.props R.work st.context) λ _. by 13 k.0 A [])
 
@@ -99,48 +98,49 @@ module _ {l : List ℕ} {R : Rooms} {k : Place} {st : State} (rd : Ready l R k.0
       unfolding pair_step
       others = starts ∙ ap (λ (q : Prog two). rest (check A) end (obey q (kid_at l c₁, (kid_at l c₂, tt)) (st_of st))) (bare (props l) two _ _)
 
-      pub exists_other : sp ≡ quantified.Other → (r : Refusal) → r ≡ record { number = 11; place = k.0 } → Refuses (run_of l R k.0 (check A) st) r
+      pub exists_other : NotOver ex R.props wanted → (r : Refusal) → r ≡ record { number = 11; place = k.0 } → Refuses (run_of l R k.0 (check A) st) r
       unfolding obey
-      exists_other e r er =
-          let other : NotOver ex R.props wanted = subst (OverAs ex R.props count wanted) e is in
+      exists_other other r er =
           says 11 k.0 er
           (others
           ∙ ap (λ (q : Prog two). rest (check A) end (obey q (kid_at l c₁, (kid_at l c₂, tt)) (st_of st))) (other (props l) two _ _)
           ∙ rest_refused (check A) end (refusal 11 k.0))
 
-      module _ (d : Name) (b : Proposition) (e : sp ≡ quantified.Over d b) where
+      module _ (u : Bound) (over : Over ex R.props count wanted u.datatype.0 u.body.0) where
+        abbrev d : Name
+        d = u.datatype
+
+        abbrev b : Proposition
+        b = u.body
+
         abbrev B : Prop
         B = room_at (props l) R.props b.0
-
-        over : Over ex R.props count wanted d.0 b.0
-        over = subst (OverAs ex R.props count wanted) e is
-
-        pub exists_body : b.0 < count
-        exists_body = over.body
 
         begun : Doing l R k.0 (check A) st R (inner st) (objected 13 10 c₁ (ctx_of l R.props R.work st.context) (opens d.0 B)) (kid_at l c₁, (kid_at l c₂, tt)) 0 0 0
         begun = doing_start _ (kid_at l c₁, (kid_at l c₂, tt)) rd (others ∙ ap (λ (q : Prog two). rest (check A) end (obey q (kid_at l c₁, (kid_at l c₂, tt)) (st_of st))) (over.goes (props l) two _ _))
 
-        module _ (ob : Object) (tells : ObjectAs l R.props R.work (want.Check wanted) c₁ st ob) where
-          pub exists_object : (r : Refusal) → ob ≡ object.Refused r → Refuses (run_of l R k.0 (check A) st) r
-          exists_object r q = doing_stop (refusal r.number r.place) begun (subst (ObjectAs l R.props R.work (want.Check wanted) c₁ st) q tells one (opens d.0 B) (kid_at l c₁, (kid_at l c₂, tt)) refl)
+        module _ (t : TermRecord) (et : t ≡ term_record l k.0) where
+          pub exists_object : (r : Refusal) → ObjectAs l R.props R.work (want.Check wanted) t.child1.0 st (Err r) → Refuses (run_of l R k.0 (check A) st) r
+          exists_object r tells =
+              let says = subst (λ (t : TermRecord). ObjectAs l R.props R.work (want.Check wanted) t.child1.0 st (Err r)) et tells in
+              doing_stop (refusal r.number r.place) begun (says one (opens d.0 B) (kid_at l c₁, (kid_at l c₂, tt)) refl)
 
-          module _ (i : Serial) (known : ob ≡ object.Known i) (free : ℕ) (el : free + st.made ≡ limit) (ps : List ℕ) (o : Made) (puts : PutIs R.props count free b.0 i.0 ps o) where
+          module _ (i : Serial) (known : ObjectAs l R.props R.work (want.Check wanted) t.child1.0 st (Ok i)) (free : ℕ) (el : free + st.made ≡ limit) (ps : List ℕ) where
             goes : obey (objected 13 10 c₁ (ctx_of l R.props R.work st.context) (opens d.0 B)) (kid_at l c₁, (kid_at l c₂, tt)) (st_of st) ≡ obey (opens d.0 B i.0) (kid_at l c₁, (kid_at l c₂, tt)) (st_of st)
-            goes = subst (ObjectAs l R.props R.work (want.Check wanted) c₁ st) known tells one (opens d.0 B) (kid_at l c₁, (kid_at l c₂, tt)) refl
+            goes = subst (λ (t : TermRecord). ObjectAs l R.props R.work (want.Check wanted) t.child1.0 st (Ok i)) et known one (opens d.0 B) (kid_at l c₁, (kid_at l c₂, tt)) refl
 
-            pub exists_full : o ≡ Full → (r : Refusal) → r ≡ record { number = 30; place = k.0 } → Refuses (run_of l R k.0 (check A) st) r
-            exists_full q r er =
+            pub exists_full : PutIs R.props count free b.0 i.0 ps None → (r : Refusal) → r ≡ record { number = 30; place = k.0 } → Refuses (run_of l R k.0 (check A) st) r
+            exists_full puts r er =
                 says 30 k.0 er
                 (doing_stop (refusal 30 k.0) begun
-                (goes ∙ full_stops l R.props ps count free (inner st) (λ t. size (room_at t R.props b.0)) (λ t. put i.0 (room_at t R.props b.0)) o ec el puts q k.0 _ (kid_at l c₁, (kid_at l c₂, tt))))
+                (goes ∙ full_stops l R.props ps count free (inner st) (λ t. size (room_at t R.props b.0)) (λ t. put i.0 (room_at t R.props b.0)) None ec el puts refl k.0 _ (kid_at l c₁, (kid_at l c₂, tt))))
 
-            pub exists_begins : (m : Proposition) (z : ℕ) → o ≡ At m z → (g : State) → GrownTo st count z g
-                → Asked l R f (rooms R.tree R.goals ps R.work) (left.Right 13 m) c₁ (want.Check (sort.Datatype d)) (inner g)
+            pub exists_begins : (o : Copied) → PutIs R.props count free b.0 i.0 ps (Some o) → (g : State) → GrownTo st count o.count g
+                → Asked l R f (rooms R.tree R.goals ps R.work) (left.Right inference.ExistsIntro o.at) c₁ (want.Check (sort.Datatype d)) (inner g)
             unfolding answered
-            exists_begins m z q g eg =
-                let makes : MadeFor l R.props ps (inner st) (inner g) (size B) (put i.0 B) m =
-                made_for l R.props ps count free (inner st) (λ t. size (room_at t R.props b.0)) (λ t. put i.0 (room_at t R.props b.0)) o ec el puts (inner g) m z q (eg.0, ap (λ (n : ℕ). n + 1) eg.1, eg.2, eg.3, eg.4, eg.5) in
+            exists_begins o puts g eg =
+                let makes : MadeFor l R.props ps (inner st) (inner g) (size B) (put i.0 B) o.at =
+                made_for l R.props ps count free (inner st) (λ t. size (room_at t R.props b.0)) (λ t. put i.0 (room_at t R.props b.0)) (Some o) ec el puts (inner g) o refl (eg.0, ap (λ (n : ℕ). n + 1) eg.1, eg.2, eg.3, eg.4, eg.5) in
                 asks rd among
                 (doing_same (ap (λ (P : Ty). ask (check (datatype d.0)) (ctx_of l R.props R.work st.context) λ _. ask (check P) (ctx_of l R.props R.work st.context) λ _. by 13 k.0 A []) (sym makes.stands.means))
                 (doing_step _ 0 begun (making_left R makes.making) (making_made makes.making) (making_serials makes.making) (goes ∙ made_goes makes k.0 _ (kid_at l c₁, (kid_at l c₂, tt)))))
@@ -148,7 +148,7 @@ module _ {l : List ℕ} {R : Rooms} {k : Place} {st : State} (rd : Ready l R k.0
 
 -- THE RIGHT PART is asked
 module _ {l : List ℕ} {R₀ : Rooms} {f : Rule} {R : Rooms} {T : Sort} {s : State} where
-  pub pair_right : {n : ℕ} {b : Proposition} → Resumed l R₀ f R (left.Right n b) T s → Asked l R₀ f R (left.By n 2) (term_record l f.term.0).child2.0 (want.Check (sort.Proposition b)) s
+  pub pair_right : {n : Inference} {b : Proposition} → Resumed l R₀ f R (left.Right n b) T s → Asked l R₀ f R (left.By n 2) (term_record l f.term.0).child2.0 (want.Check (sort.Proposition b)) s
   pair_right a = asks a.begun a.wants a.doing a.holds.2 a.fits (omega (arith, a.holds.1)) a.others a.holds.0
 
   pub pairing_second : Resumed l R₀ f R left.Second T s → Asked l R₀ f R (left.Both T) (term_record l f.term.0).child2.0 want.Synth s
@@ -173,7 +173,7 @@ module _ {l : List ℕ} {R₀ : Rooms} {f : Rule} {R : Rooms} {t u : Sort} {s : 
     unfolding on_prop obey
     both_first d e r er = says 25 k er (doing_stop (refusal 25 k) whole (λ i. obey (pairing k (reads l R.props (e i)) (reads l R.props (eu i))) tt (st_of s)))
 
-    module _ (p : Proposition) (et : t ≡ sort.Proposition p) (count : ℕ) (ec : count ≡ count_of l s) (free : ℕ) (el : free + s.made ≡ limit) (mo : Made) (ps : List ℕ) (is : LinkIs and R.props count free p.0 b.0 ps mo) where
+    module _ (p : Proposition) (et : t ≡ sort.Proposition p) (count : ℕ) (ec : count ≡ count_of l s) (free : ℕ) (el : free + s.made ≡ limit) (ps : List ℕ) where
       abbrev whole_and : ℕ → Prop
       whole_and tables = link made and (room_at tables R.props p.0) (room_at tables R.props b.0)
 
@@ -181,12 +181,12 @@ module _ {l : List ℕ} {R₀ : Rooms} {f : Rule} {R : Rooms} {t u : Sort} {s : 
       unfolding on_prop
       making_and = doing_same (λ i. pairing k (reads l R.props (et i)) (reads l R.props (eu i))) whole
 
-      pub both_full : mo ≡ Full → (r : Refusal) → r ≡ record { number = 30; place = k } → Refuses (run_of l R₀ k (mode l R₀.props f.want) f.start) r
-      both_full q r er = says 30 k er (doing_stop (refusal 30 k) making_and (full_stops l R.props ps count free s (λ tables. 1) whole_and mo ec el is q k _ tt))
+      pub both_full : LinkIs and R.props count free p.0 b.0 ps None → (r : Refusal) → r ≡ record { number = 30; place = k } → Refuses (run_of l R₀ k (mode l R₀.props f.want) f.start) r
+      both_full is r er = says 30 k er (doing_stop (refusal 30 k) making_and (full_stops l R.props ps count free s (λ tables. 1) whole_and None ec el is refl k _ tt))
 
-      pub both_made : (m : Proposition) (e : ℕ) → mo ≡ At m e → (s₁ : State) → GrownTo s count e s₁ → Resumed l R₀ f (rooms R.tree R.goals ps R.work) (left.By 2 2) (sort.Proposition m) s₁
-      both_made m e q s₁ g =
-          let d : MadeFor l R.props ps s s₁ 1 (whole_and (props l)) m = made_for l R.props ps count free s (λ tables. 1) whole_and mo ec el is s₁ m e q g in
+      pub both_made : (o : Copied) → LinkIs and R.props count free p.0 b.0 ps (Some o) → (s₁ : State) → GrownTo s count o.count s₁ → Resumed l R₀ f (rooms R.tree R.goals ps R.work) (left.By inference.AndIntro 2) (sort.Proposition o.at) s₁
+      both_made o is s₁ g =
+          let d : MadeFor l R.props ps s s₁ 1 (whole_and (props l)) o.at = made_for l R.props ps count free s (λ tables. 1) whole_and (Some o) ec el is s₁ o refl g in
           turned a d.stands
           (doing_same (ap (λ (A : Ty). by 2 k A []) (sym (answered_synth l R₀.props a.holds.2 (prop (whole_and (props l))))))
           (doing_step _ 0 making_and (making_left R d.making) d.making.within (making_serials d.making) (made_goes d k _ tt)))

@@ -1,5 +1,8 @@
 -- The projections, piece by piece. Assumes nothing.
-use mathlib.Core.Path.{◌≡◌, refl, ap, sym, subst, ◌∙◌}
+use Rattle.step.specs.declared.inference.Inference.TheVariants as inference
+use Rattle.step.specs.declared.inference.Inference.{Inference}
+use Rattle.step.specs.Trees.{rule_number}
+use mathlib.Core.Path.{◌≡◌, refl, ap, sym, ◌∙◌}
 use mathlib.Core.Bool.{Bool, true, false, cond}
 use mathlib.Core.List.{List, []}
 use mathlib.Core.Logic.{◌⊎◌, inl, inr}
@@ -23,10 +26,9 @@ use Rattle.rules.specs.Rules.{by, project_synth, project_step, single_step}
 use Rattle.table.specs.Reading.{term_at}
 use Rattle.prop.specs.Room.{room_at}
 use Rattle.prop.specs.declared.head.Parts.{Parts}
-use Rattle.prop.specs.declared.head.Parts.TheVariants as parts
 use Rattle.step.specs.declared.state.State.{State}
 use Rattle.step.specs.declared.state.Want.TheVariants as want
-use Rattle.prop.specs.Head.{Split, Unsplit, SplitAs}
+use Rattle.prop.specs.Head.{Split, Unsplit}
 use Rattle.step.specs.Rooms.{Rooms, reads, ctx_of, st_of, count_of, inner}
 use Rattle.step.specs.Modes.{mode}
 use Rattle.step.specs.Contract.{Ready, Refuses, run_of}
@@ -77,22 +79,24 @@ module _ {l : List ℕ} {R : Rooms} {k : Place} {st : State} (rd : Ready l R k.0
   projection_begins = asks rd tt (doing_start _ (kid_at l c₁, tt) rd starts) (omega arith) (omega (arith, child.1)) (refl, refl) (child.0, tt) tt
 
 -- A PART of what it has
-module _ {l : List ℕ} {R₀ : Rooms} {f : Rule} {R : Rooms} {t : Sort} {s : State} (a : Resumed l R₀ f R left.Part t s) (count : ℕ) (ec : count ≡ count_of l s) (sp : Parts) (is : SplitAs and R.props count t sp) where
+module _ {l : List ℕ} {R₀ : Rooms} {f : Rule} {R : Rooms} {t : Sort} {s : State} (a : Resumed l R₀ f R left.Part t s) (count : ℕ) (ec : count ≡ count_of l s) where
   abbrev k : ℕ
   k = f.term.0
 
   whole : Doing l R₀ k (mode l R₀.props f.want) f.start R s (projecting k (term_record l k).kind (reads l R.props t)) tt a.used a.own a.wide
   whole = doing_same (ap (projecting k (term_record l k).kind) (sym a.stands.means)) a.doing
 
-  pub part_other : sp ≡ parts.Other → (r : Refusal) → r ≡ record { number = 22; place = k } → Refuses (run_of l R₀ k (mode l R₀.props f.want) f.start) r
+  pub part_other : Unsplit and R.props t → (r : Refusal) → r ≡ record { number = 22; place = k } → Refuses (run_of l R₀ k (mode l R₀.props f.want) f.start) r
   unfolding obey
-  part_other e r er =
-      let bare : Unsplit and R.props t = subst (SplitAs and R.props count t) e is in
+  part_other bare r er =
       says 22 k er (doing_stop (refusal 22 k) whole (ap (λ (q : Prog done). obey q tt (st_of s)) (bare (props l) done _ _)))
 
-  module _ (x y : Proposition) (e : sp ≡ parts.Both x y) (r : TermRecord) (er : r ≡ term_record l k) where
-    split : Split and R.props count t x.0 y.0
-    split = subst (SplitAs and R.props count t) e is
+  module _ (o : Parts) (split : Split and R.props count t o.left.0 o.right.0) (r : TermRecord) (er : r ≡ term_record l k) where
+    abbrev x : Proposition
+    x = o.left
+
+    abbrev y : Proposition
+    y = o.right
 
     abbrev P : Proposition → Ty
     P m = prop (room_at (props l) R.props m.0)
@@ -100,12 +104,12 @@ module _ {l : List ℕ} {R₀ : Rooms} {f : Rule} {R : Rooms} {t : Sort} {s : St
     chosen : (b : Bool) → eqb r.kind 2 ≡ b → Doing l R₀ k (mode l R₀.props f.want) f.start R s (cond b (by 3 k (P x) []) (by 4 k (P y) [])) tt a.used a.own a.wide
     chosen b eb = doing_same (split.goes (props l) done _ _ ∙ ap (λ (b : Bool). cond b (by 3 k (P x) []) (by 4 k (P y) [])) (ap (λ (r : TermRecord). eqb r.kind 2) (sym er) ∙ eb)) whole
 
-    ends : (n : ℕ) (m : Proposition) → m.0 < count_of l s → Doing l R₀ k (mode l R₀.props f.want) f.start R s (by n k (P m) []) tt a.used a.own a.wide → Resumed l R₀ f R (left.By n 1) (sort.Proposition m) s
+    ends : (n : Inference) (m : Proposition) → m.0 < count_of l s → Doing l R₀ k (mode l R₀.props f.want) f.start R s (by (rule_number n) k (P m) []) tt a.used a.own a.wide → Resumed l R₀ f R (left.By n 1) (sort.Proposition m) s
     ends n m h d =
-        turned a (record { among = h; means = refl }) (doing_same (ap (λ (A : Ty). by n k A []) (sym (answered_synth l R₀.props a.holds.0 (P m)))) d) (omega arith) a.holds.1 tt
+        turned a (record { among = h; means = refl }) (doing_same (ap (λ (A : Ty). by (rule_number n) k A []) (sym (answered_synth l R₀.props a.holds.0 (P m)))) d) (omega arith) a.holds.1 tt
 
-    pub part_first : eqb r.kind 2 ≡ true → Resumed l R₀ f R (left.By 3 1) (sort.Proposition x) s
-    part_first eb = ends 3 x (omega (arith, split.first)) (chosen true eb)
+    pub part_first : eqb r.kind 2 ≡ true → Resumed l R₀ f R (left.By inference.AndElimFst 1) (sort.Proposition x) s
+    part_first eb = ends inference.AndElimFst x (omega (arith, split.first)) (chosen true eb)
 
-    pub part_second : eqb r.kind 2 ≡ false → Resumed l R₀ f R (left.By 4 1) (sort.Proposition y) s
-    part_second eb = ends 4 y (omega (arith, split.second)) (chosen false eb)
+    pub part_second : eqb r.kind 2 ≡ false → Resumed l R₀ f R (left.By inference.AndElimSnd 1) (sort.Proposition y) s
+    part_second eb = ends inference.AndElimSnd y (omega (arith, split.second)) (chosen false eb)

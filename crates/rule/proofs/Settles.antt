@@ -6,6 +6,8 @@ use Prim.Native.Nat.{ℕ, ◌+◌, ◌*◌, ◌<◌, ◌≤◌}
 use native.Mathlib.Omega.{arith}
 use lib.Dec.{T, eqb, eqb→eq}
 use lib.ListN.{length}
+use Rattle.std.specs.declared.result.Result.{Result}
+use Rattle.std.specs.declared.result.Result.TheVariants.{Ok, Err}
 use Rattle.numbers.specs.declared.Sort.{Sort}
 use Rattle.numbers.specs.declared.record.Record.{Record}
 use Rattle.numbers.specs.declared.refusal.Refusal.{Refusal}
@@ -22,15 +24,14 @@ use Rattle.rules.specs.Step.{synth, check, Out, refused, ok, then, Answer}
 use Rattle.rules.specs.Rules.{ident_synth, ident_step, project_synth, project_step, app_synth, app_step, leaf_step, single_step, double_step}
 use Rattle.rules.proofs.Spent.{Spent, run_spends}
 use Rattle.table.specs.Reading.{term_at}
-use Rattle.prop.specs.Room.{type_at, TypeIn}
+use Rattle.prop.specs.Room.{type_at}
 use Rattle.prop.specs.Compare.{compared, compared_types}
 use Rattle.prop.specs.declared.compare.Compared.{Compared}
 use Rattle.prop.specs.declared.compare.Compared.TheVariants.{Equal, Alpha, Apart}
 use Rattle.step.specs.declared.state.State.{State}
 use Rattle.step.specs.declared.state.Want.{Want}
 use Rattle.step.specs.declared.state.Want.TheVariants as want
-use Rattle.step.specs.declared.state.Ran.{Ran}
-use Rattle.step.specs.declared.state.Ran.TheVariants as ran
+use Rattle.step.specs.declared.state.Answer.{Answer as Answered}
 use Rattle.step.specs.Rooms.{Rooms, rooms, reads, ctx_of, st_of, count_of, inner, Stands, Base}
 use Rattle.step.specs.Modes.{WantIn}
 use Rattle.step.specs.Shift.{Shifted}
@@ -153,11 +154,11 @@ begun_check kind w E e = at (synthesizes kind) refl e
 
 -- A REFUSAL before the comparison is the check's too
 pub refused_so : {l : List ℕ} {R : Rooms} (R₁ : Rooms) {k : ℕ} {st : State} (rd : Ready l R k st) (w : Want) (r : Refusal)
-    → RanAs l R R₁ k (begun_as (term_record l k).kind w) st (ran.Refused r) → RanAs l R R₁ k w st (ran.Refused r)
+    → RanAs l R R₁ k (begun_as (term_record l k).kind w) st (Err r) → RanAs l R R₁ k w st (Err r)
 unfolding begun_as then
 refused_so {l} {R} R₁ {k} {st} rd w r m = at w (synthesizes (term_record l k).kind) refl m
   where
-    at : (w : Want) (b : Bool) → synthesizes (term_record l k).kind ≡ b → RanAs l R R₁ k (cond b want.Synth w) st (ran.Refused r) → RanAs l R R₁ k w st (ran.Refused r)
+    at : (w : Want) (b : Bool) → synthesizes (term_record l k).kind ≡ b → RanAs l R R₁ k (cond b want.Synth w) st (Err r) → RanAs l R R₁ k w st (Err r)
     at w false e m = m
     at want.Synth true e m = m
     at (want.Check E) true e m = compares rd E e ∙ ap (holding rd E e) m
@@ -167,16 +168,16 @@ module _ {l tree ps : List ℕ} {k : ℕ} {w : Want} {st : State} {t : Sort} {s 
   abbrev E₁ : Rooms
   E₁ = rooms tree z.goals ps z.work
 
-  pub ended_synth : w ≡ want.Synth → RanAs l z.start E₁ k w st (ran.Has t s)
+  pub ended_synth : w ≡ want.Synth → RanAs l z.start E₁ k w st (Ok (record { typ = t; state = s }))
   unfolding begun_as
-  ended_synth e = subst⁻¹ (λ (w : Want). RanAs l z.start E₁ k w st (ran.Has t s)) e (at (synthesizes (term_record l k).kind) (subst (λ (w : Want). RanAs l z.start E₁ k (begun_as (term_record l k).kind w) st (ran.Has t s)) e z.ran))
+  ended_synth e = subst⁻¹ (λ (w : Want). RanAs l z.start E₁ k w st (Ok (record { typ = t; state = s }))) e (at (synthesizes (term_record l k).kind) (subst (λ (w : Want). RanAs l z.start E₁ k (begun_as (term_record l k).kind w) st (Ok (record { typ = t; state = s }))) e z.ran))
     where
-      at : (b : Bool) → RanAs l z.start E₁ k (cond b want.Synth want.Synth) st (ran.Has t s) → RanAs l z.start E₁ k want.Synth st (ran.Has t s)
+      at : (b : Bool) → RanAs l z.start E₁ k (cond b want.Synth want.Synth) st (Ok (record { typ = t; state = s })) → RanAs l z.start E₁ k want.Synth st (Ok (record { typ = t; state = s }))
       at true m = m
       at false m = m
 
-  pub ended_so : synthesizes (term_record l k).kind ≡ false → RanAs l z.start E₁ k w st (ran.Has t s)
-  ended_so e = subst (λ (w : Want). RanAs l z.start E₁ k w st (ran.Has t s)) (begun_so _ e) z.ran
+  pub ended_so : synthesizes (term_record l k).kind ≡ false → RanAs l z.start E₁ k w st (Ok (record { typ = t; state = s }))
+  ended_so e = subst (λ (w : Want). RanAs l z.start E₁ k w st (Ok (record { typ = t; state = s }))) (begun_so _ e) z.ran
 
   -- a check
   module _ {E : Sort} (e : w ≡ want.Check E) where
@@ -188,10 +189,10 @@ module _ {l tree ps : List ℕ} {k : ℕ} {w : Want} {st : State} {t : Sort} {s 
           work = z.work;
           ready = z.ready;
           among = subst (WantIn (count_of l st)) e z.among;
-          ran = subst (λ (w : Want). RanAs l z.start E₁ k (begun_as (term_record l k).kind w) st (ran.Has t s)) e z.ran;
+          ran = subst (λ (w : Want). RanAs l z.start E₁ k (begun_as (term_record l k).kind w) st (Ok (record { typ = t; state = s }))) e z.ran;
         }
 
-    pub ended_checked : (R₂ : Rooms) (r : Ran) → RanAs l z.start R₂ k (want.Check E) st r → RanAs l z.start R₂ k w st r
+    pub ended_checked : (R₂ : Rooms) (r : Result Answered Refusal) → RanAs l z.start R₂ k (want.Check E) st r → RanAs l z.start R₂ k w st r
     ended_checked R₂ r m = subst⁻¹ (λ (w : Want). RanAs l z.start R₂ k w st r) e m
 
 -- WHAT WAS SYNTHESIZED, held against what is wanted
@@ -210,7 +211,7 @@ module _ {l tree ps : List ℕ} {k : ℕ} {wanted : Sort} {st : State} {t : Sort
 
   has : Answers l R R₁ st s t (run_of l R k synth st)
   unfolding begun_as
-  has = subst (λ (b : Bool). RanAs l R R₁ k (cond b want.Synth (want.Check wanted)) st (ran.Has t s)) kind z.ran
+  has = subst (λ (b : Bool). RanAs l R R₁ k (cond b want.Synth (want.Check wanted)) st (Ok (record { typ = t; state = s }))) kind z.ran
 
   abbrev found : Answer
   found = has.accepted.answer
@@ -228,12 +229,6 @@ module _ {l tree ps : List ℕ} {k : ℕ} {wanted : Sort} {st : State} {t : Sort
   pub settle_base : Base l R₁ s
   settle_base = left_base left (spent.within z.ready.base.made) z.ready.base
 
-  pub settle_type : TypeIn (count_of l s) t
-  settle_type = has.type.among
-
-  pub settle_wanted : TypeIn (count_of l s) wanted
-  settle_wanted = stands.among
-
   module _ (c : Compared) (ec : (tables : ℕ) → c ≡ compared_types (type_at tables R₁.props t) (type_at tables R₁.props wanted)) where
     answers : (d : Compared) → c ≡ d → run_of l R k (check A) st ≡ outcome k A found (st_of s) d
     unfolding then
@@ -243,11 +238,11 @@ module _ {l tree ps : List ℕ} {k : ℕ} {wanted : Sort} {st : State} {t : Sort
         ∙ compared_outcome k A found (st_of s)
         ∙ ap (outcome k A found (st_of s)) ((λ i. compared_types (sym has.type.means i) (sym stands.means i)) ∙ sym (ec (props l)) ∙ ed)
 
-    pub settle_apart : c ≡ Apart → (r : Refusal) → r ≡ record { number = 14; place = k } → RanAs l R R₁ k (want.Check wanted) st (ran.Refused r)
+    pub settle_apart : c ≡ Apart → (r : Refusal) → r ≡ record { number = 14; place = k } → RanAs l R R₁ k (want.Check wanted) st (Err r)
     unfolding outcome
     settle_apart ed r er = says 14 k er (answers Apart ed)
 
-    pub settle_equal : c ≡ Equal → RanAs l R R₁ k (want.Check wanted) st (ran.Has wanted s)
+    pub settle_equal : c ≡ Equal → RanAs l R R₁ k (want.Check wanted) st (Ok (record { typ = wanted; state = s }))
     unfolding outcome
     settle_equal ed = record { accepted = record { answer = record { ty = A; tree = found.tree }; accepts = answers Equal ed; left = left }; type = stands }
 
@@ -318,7 +313,7 @@ module _ {l tree ps : List ℕ} {k : ℕ} {wanted : Sort} {st : State} {t : Sort
                     };
               }
 
-          pub settle_alpha : (s' : State) → s' ≡ inner s → RanAs l R R₂ k (want.Check wanted) st (ran.Has wanted s')
+          pub settle_alpha : (s' : State) → s' ≡ inner s → RanAs l R R₂ k (want.Check wanted) st (Ok (record { typ = wanted; state = s' }))
           settle_alpha s' es =
-              subst⁻¹ (λ (s' : State). RanAs l R R₂ k (want.Check wanted) st (ran.Has wanted s')) es
+              subst⁻¹ (λ (s' : State). RanAs l R R₂ k (want.Check wanted) st (Ok (record { typ = wanted; state = s' }))) es
               (record { accepted = record { answer = topped; accepts = accepts; left = over }; type = stands })

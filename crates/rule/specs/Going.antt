@@ -1,5 +1,6 @@
 -- What the pieces of a rule ask and promise: a rule that asks for a child, a rule whose child has answered, and what comes of it. Assumes nothing.
-use Rattle.std.specs.Prelude.{◌≡◌, Bool, true, false, cond, List, ℕ, ◌+◌, ◌*◌, ◌<◌, ◌≤◌, length}
+use Rattle.std.specs.Prelude.{◌≡◌, Bool, true, false, cond, List, ℕ, ◌+◌, ◌*◌, ◌<◌, ◌≤◌, length, Result, Ok, Err}
+use Rattle.numbers.specs.declared.refusal.Refusal.{Refusal}
 use Rattle.numbers.specs.declared.Sort.{Sort}
 use Rattle.numbers.specs.Limits.{largest}
 use Rattle.layout.specs.File.{term_record, terms}
@@ -14,8 +15,7 @@ use Rattle.context.specs.Context.{most_entries, context_room}
 use Rattle.step.specs.declared.state.State.{State}
 use Rattle.step.specs.declared.state.Want.{Want}
 use Rattle.step.specs.declared.state.Want.TheVariants as want
-use Rattle.step.specs.declared.state.Ran.{Ran}
-use Rattle.step.specs.declared.state.Ran.TheVariants as ran
+use Rattle.step.specs.declared.state.Answer.{Answer}
 use Rattle.step.specs.Rooms.{Rooms, rooms, reads, ctx_of, count_of, leaving, Stands, Table, Loaded, most_serials}
 use Rattle.step.specs.Modes.{mode, WantIn}
 use Rattle.step.specs.Contract.{Ready, RanAs, synthesizes}
@@ -85,25 +85,23 @@ module _ (l : List ℕ) (R₀ : Rooms) (f : Rule) where
     pub others : Inside l f.term.0 (after (term_record l f.term.0) q)
 
 -- WHAT A PIECE ANSWERS for the term k, which is wanted as w from R₀ and st₀: fewer than j children are left after the one that it asks for. Whatever a
--- rule or a term that goes on in its place comes to, it comes to. No term whose check is a comparison has another go on in its place
-abbrev pub NextIs : (l : List ℕ) (R₀ : Rooms) (k : ℕ) (w : Want) (st₀ : State) (j : ℕ) → Rooms → Next → Type 0
-NextIs l R₀ k w st₀ j R (next.Ask f q x v s) =
-    Asked l R₀ f R q x.0 v s
-    × ((f.term.0 ≡ k) × (length (after (term_record l k) q) < j))
-    × ((R' : Rooms) (r : Ran) → RanAs l R₀ R' f.term.0 f.want f.start r → RanAs l R₀ R' k w st₀ r)
-NextIs l R₀ k w st₀ j R (next.Instead x E s) =
+-- term that goes on in its place comes to, it comes to. No term whose check is a comparison has another go on in its place
+abbrev pub NextIs : (l : List ℕ) (R₀ : Rooms) (k : ℕ) (w : Want) (st₀ : State) (j : ℕ) → Rooms → Result Next Refusal → Type 0
+NextIs l R₀ k w st₀ j R (Ok (next.Ask q x v s)) =
+    Asked l R₀ (record { term = record { 0 = k }; want = w; start = st₀ }) R q x.0 v s × (length (after (term_record l k) q) < j)
+NextIs l R₀ k w st₀ j R (Ok (next.Instead x E s)) =
     (Ready l R x.0 s × TypeIn (count_of l s) E)
     × (((k < x.0) × (x.0 < terms l)) × (synthesizes (term_record l k).kind ≡ false))
-    × ((R' : Rooms) (r : Ran) → RanAs l R R' x.0 (want.Check E) s r → RanAs l R₀ R' k w st₀ r)
-NextIs l R₀ k w st₀ j R (next.Done T s) = RanAs l R₀ R k w st₀ (ran.Has T s)
-NextIs l R₀ k w st₀ j R (next.Refused r) = RanAs l R₀ R k w st₀ (ran.Refused r)
+    × ((R' : Rooms) (r : Result Answer Refusal) → RanAs l R R' x.0 (want.Check E) s r → RanAs l R₀ R' k w st₀ r)
+NextIs l R₀ k w st₀ j R (Ok (next.Done a)) = RanAs l R₀ R k w st₀ (Ok a)
+NextIs l R₀ k w st₀ j R (Err r) = RanAs l R₀ R k w st₀ (Err r)
 
 -- a term begun, in the rooms R; no rule has more than three children
-pub record Begins (l : List ℕ) (R R' : Rooms) (k : ℕ) (w : Want) (st : State) (n : Next) : Type 0 where
+pub record Begins (l : List ℕ) (R R' : Rooms) (k : ℕ) (w : Want) (st : State) (n : Result Next Refusal) : Type 0 where
   pub begins : Ready l R k st → NextIs l R k w st 3 R' n
 
 -- the rule f gone on with, after its child answered T
-pub record Resumes (l : List ℕ) (R R' : Rooms) (f : Rule) (q : Rest) (T : Sort) (s : State) (n : Next) : Type 0 where
+pub record Resumes (l : List ℕ) (R R' : Rooms) (f : Rule) (q : Rest) (T : Sort) (s : State) (n : Result Next Refusal) : Type 0 where
   pub goes : (R₀ : Rooms) → Resumed l R₀ f R q T s → NextIs l R₀ f.term.0 f.want f.start (length (after (term_record l f.term.0) q)) R' n
 
 -- WHAT THE PIECES ASK: the table, the propositions, a place for the node, room for an entry
@@ -161,4 +159,4 @@ pub record Ended (l tree ps : List ℕ) (k : ℕ) (w : Want) (st : State) (T : S
   pub work : List ℕ
   pub ready : Ready l start k st
   pub among : WantIn (count_of l st) w
-  pub ran : RanAs l start (rooms tree goals ps work) k (begun_as (term_record l k).kind w) st (ran.Has T s)
+  pub ran : RanAs l start (rooms tree goals ps work) k (begun_as (term_record l k).kind w) st (Ok (record { typ = T; state = s }))

@@ -8,14 +8,20 @@ ghost use Rattle.step.specs.Rooms.{count_of, rooms};
 ghost use Rattle.rule.specs.Going.{Begun, Begins};
 
 use super::next::Next;
-use numbers::refusal::Refusal;
+use numbers::refusal::{Reason, Refusal};
 use numbers::{Sort, Term};
-use prop::compare::{compare_types, is_alpha};
-use step::state::{State, Want, count_of, term_record};
-use step::typing::{Annotation, Resolving, annotation_of, resolve_type};
+use step::state::{State, Want, term_record};
+use step::typing::{annotation_of, resolve_type};
 
 // A table that passes its tests has no ascription without an annotation.
-pub fn check(file: &[u8], props: &mut [u8], work: &[u8], k: Term, wanted: Sort, st: State) -> Next
+pub fn check(
+    file: &[u8],
+    props: &mut [u8],
+    work: &[u8],
+    k: Term,
+    wanted: Sort,
+    st: State,
+) -> Result<Next, Refusal>
     requires begun { Begun file.now props.old work.now k.0 st }
     requires type_in { TypeIn (count_of file.now st) wanted }
     requires k_value { (term_record file.now k.0).kind ≡ 12 }
@@ -23,38 +29,34 @@ pub fn check(file: &[u8], props: &mut [u8], work: &[u8], k: Term, wanted: Sort, 
         (rooms tree goals props.new work.now) k.0 (Check wanted) st result }
 {
     let r = term_record(file, k);
-    let Annotation::Of(t) = annotation_of(r) else {
-        return Next::Refused(Refusal::at(11, k));
+    let Some(t) = annotation_of(r) else {
+        return Err(Reason::CheckWrongTerm.at(k));
     };
-    let w = Want::Check(wanted);
-    match resolve_type(file, props, work, k, w, t, st) {
-        Resolving::Refused(e) => Next::Refused(e),
-        Resolving::To(a, s) => {
-            if is_alpha(compare_types(props, count_of(file, s), a, wanted)) {
-                let x = r.child1;
-                Next::Instead(x, wanted, s)
-            } else {
-                Next::Refused(Refusal::at(15, k))
-            }
-        }
+    let a = resolve_type(file, props, work, k, Want::Check(wanted), t, st)?;
+    let held = a.state.held(file, props);
+    if held.compare_types(a.typ, wanted).is_alpha() {
+        Ok(Next::Instead(r.child1, wanted, a.state))
+    } else {
+        Err(Reason::CheckOtherAscription.at(k))
     }
 }
 
-pub fn synthesize(file: &[u8], props: &mut [u8], work: &[u8], k: Term, st: State) -> Next
+pub fn synthesize(
+    file: &[u8],
+    props: &mut [u8],
+    work: &[u8],
+    k: Term,
+    st: State,
+) -> Result<Next, Refusal>
     requires begun { Begun file.now props.old work.now k.0 st }
     requires k_value { (term_record file.now k.0).kind ≡ 12 }
     ensures { (tree goals : List ℕ) → Begins file.now (rooms tree goals props.old work.now)
         (rooms tree goals props.new work.now) k.0 Synth st result }
 {
     let r = term_record(file, k);
-    let Annotation::Of(t) = annotation_of(r) else {
-        return Next::Refused(Refusal::at(25, k));
+    let Some(t) = annotation_of(r) else {
+        return Err(Reason::SynthNoType.at(k));
     };
-    match resolve_type(file, props, work, k, Want::Synth, t, st) {
-        Resolving::Refused(e) => Next::Refused(e),
-        Resolving::To(a, s) => {
-            let x = r.child1;
-            Next::Instead(x, a, s)
-        }
-    }
+    let a = resolve_type(file, props, work, k, Want::Synth, t, st)?;
+    Ok(Next::Instead(r.child1, a.typ, a.state))
 }

@@ -12,48 +12,40 @@ ghost use Rattle.rule.specs.declared.next.Rest.TheVariants.{CaseLeft, CaseRight,
 ghost use Rattle.rule.specs.Going.{Here, Room, Fresh, Begins, Resumes, ArmsAs};
 
 use super::next::{Next, Rest, Rule};
-use numbers::refusal::Refusal;
+use numbers::refusal::{Reason, Refusal};
 use numbers::{Proposition, Serial, Sort, Term};
-use prop::compare::{compare_types, is_alpha};
-use prop::head::{Link, Parts, split};
+use prop::head::Link;
 use step::enter::enter_fresh;
-use step::node::{OR_ELIM, node, put_node};
-use step::state::{State, Want, answered, count_of, inner, of, term_record};
+use step::inference::Inference;
+use step::node::{node, put_node};
+use step::state::{Answer, State, Want, term_record};
 
-pub fn begin(file: &[u8], k: Term, w: Want, st: State) -> Next
+pub fn begin(file: &[u8], k: Term, w: Want, st: State) -> Result<Next, Refusal>
     requires here { Here file.now k.0 × (st.records < largest) }
     requires want_in { WantIn (count_of file.now st) w }
     requires k_value { (term_record file.now k.0).kind ≡ 9 }
     ensures { (R : Rooms) → Begins file.now R R k.0 w st result }
 {
     let r = term_record(file, k);
-    let x = r.child1;
-    let f = Rule {
-        term: k,
-        want: w,
-        start: st,
-    };
-    Next::Ask(f, Rest::CaseLeft, x, Want::Synth, inner(st))
+    Ok(Next::Ask(Rest::CaseLeft, r.child1, Want::Synth, st.inner()))
 }
 
-pub fn left(file: &[u8], props: &[u8], work: &mut [u8], f: Rule, t: Sort, st: State) -> Next
+pub fn left(file: &[u8], props: &[u8], work: &mut [u8], f: Rule, a: Answer) -> Result<Next, Refusal>
     requires here { Here file.now f.term.0 }
-    requires room { Room file.now props.now st × TypeIn (count_of file.now st) t }
-    requires fresh { Fresh work.old st }
+    requires room { Room file.now props.now a.state × TypeIn (count_of file.now a.state) a.typ }
+    requires fresh { Fresh work.old a.state }
     ensures { (tree goals : List ℕ) → Resumes file.now (rooms tree goals props.now work.old)
-        (rooms tree goals props.now work.new) f CaseLeft t st result }
+        (rooms tree goals props.now work.new) f CaseLeft a.typ a.state result }
 {
-    let k = f.term;
     let w = f.want;
-    let r = term_record(file, k);
-    let Parts::Both(a, b) = split(props, count_of(file, st), t, Link::Or) else {
-        let h = r.child1;
-        return Next::Refused(Refusal::at(of(w, 12, 22), h));
+    let r = term_record(file, f.term);
+    let Some(parts) = a.state.held(file, props).split(a.typ, Link::Or) else {
+        let why = w.either(Reason::CheckWrongHead, Reason::SynthWrongHead);
+        return Err(why.at(r.child1));
     };
-    let x = r.name1;
-    let y = r.child2;
-    let s = enter_fresh(work, st, x, Sort::Proposition(a));
-    Next::Ask(f, Rest::CaseRight(Serial(st.serials), b), y, w, s)
+    let s = enter_fresh(work, a.state, r.name1, Sort::Proposition(parts.left));
+    let rest = Rest::CaseRight(Serial(a.state.serials), parts.right);
+    Ok(Next::Ask(rest, r.child2, w, s))
 }
 
 pub fn right(
@@ -62,21 +54,17 @@ pub fn right(
     f: Rule,
     i: Serial,
     b: Proposition,
-    t: Sort,
-    st: State,
-) -> Next
+    a: Answer,
+) -> Result<Next, Refusal>
     requires here { Here file.now f.term.0 }
-    requires fresh { Fresh work.old st }
+    requires fresh { Fresh work.old a.state }
     ensures { (tree goals ps : List ℕ) → Resumes file.now (rooms tree goals ps work.old)
-        (rooms tree goals ps work.new) f (CaseRight i b) t st result }
+        (rooms tree goals ps work.new) f (CaseRight i b) a.typ a.state result }
 {
-    let k = f.term;
-    let w = f.want;
-    let r = term_record(file, k);
-    let x = r.name2;
-    let y = r.child3;
-    let s = enter_fresh(work, st, x, Sort::Proposition(b));
-    Next::Ask(f, Rest::CaseEnd(i, Serial(st.serials), t), y, w, s)
+    let r = term_record(file, f.term);
+    let s = enter_fresh(work, a.state, r.name2, Sort::Proposition(b));
+    let rest = Rest::CaseEnd(i, Serial(a.state.serials), a.typ);
+    Ok(Next::Ask(rest, r.child3, f.want, s))
 }
 
 pub fn end(
@@ -87,37 +75,35 @@ pub fn end(
     i: Serial,
     j: Serial,
     t: Sort,
-    u: Sort,
-    st: State,
-) -> Next
+    a: Answer,
+) -> Result<Next, Refusal>
     requires here { Here file.now f.term.0 }
-    requires room { Room file.now props.now st × TypeIn (count_of file.now st) t × TypeIn (count_of file.now st) u }
+    requires room { Room file.now props.now a.state × TypeIn (count_of file.now a.state) t × TypeIn (count_of file.now a.state) a.typ }
     requires records_in_bounds { 16 * f.start.records + 16 ≤ length tree.old }
     ensures { (goals work : List ℕ) → Resumes file.now (rooms tree.old goals props.now work)
-        (rooms tree.new goals props.now work) f (CaseEnd i j t) u st result }
+        (rooms tree.new goals props.now work) f (CaseEnd i j t) a.typ a.state result }
 {
-    let k = f.term;
     let w = f.want;
-    let s = f.start;
-    if !arms_agree(file, props, w, t, u, st) {
-        return Next::Refused(Refusal::at(26, k));
+    if !arms_agree(file, props, w, t, a) {
+        return Err(Reason::SynthArmsDiffer.at(f.term));
     }
     let Sort::Proposition(_) = t else {
-        return Next::Refused(Refusal::at(of(w, 13, 24), k));
+        let why = w.either(Reason::CheckNoObject, Reason::SynthNoProposition);
+        return Err(why.at(f.term));
     };
-    let top = node(OR_ELIM, k, t, i, j, 3);
-    put_node(tree, s.records, top);
-    Next::Done(answered(w, u), st)
+    let top = node(Inference::OrElim, f.term, t, i, j, 3);
+    put_node(tree, f.start.records, top);
+    Ok(Next::Done(f.answered(a)))
 }
 
 // In a check both arms have what is wanted.
-fn arms_agree(file: &[u8], props: &[u8], w: Want, t: Sort, u: Sort, st: State) -> bool
+fn arms_agree(file: &[u8], props: &[u8], w: Want, t: Sort, a: Answer) -> bool
     requires table { Table file.now }
-    requires room { Room file.now props.now st × TypeIn (count_of file.now st) t × TypeIn (count_of file.now st) u }
-    ensures { ArmsAs file.now props.now w t u result }
+    requires room { Room file.now props.now a.state × TypeIn (count_of file.now a.state) t × TypeIn (count_of file.now a.state) a.typ }
+    ensures { ArmsAs file.now props.now w t a.typ result }
 {
     match w {
         Want::Check(_) => true,
-        Want::Synth => is_alpha(compare_types(props, count_of(file, st), t, u)),
+        Want::Synth => a.state.held(file, props).compare_types(t, a.typ).is_alpha(),
     }
 }

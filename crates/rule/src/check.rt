@@ -9,19 +9,23 @@ ghost use Rattle.step.specs.Rooms.{count_of, rooms};
 ghost use Rattle.step.specs.Contract.{Ready, RanAs, synthesizes};
 ghost use Rattle.rule.specs.Going.{Begins, Ended, begun_as};
 
-use super::next::Next;
+use super::next::{Next, Rule};
 use super::{abort, ascription, case, function, let_in, or, pair, sorry, unit};
-use numbers::refusal::Refusal;
+use numbers::refusal::{Reason, Refusal};
 use numbers::{Serial, Sort, Term};
-use prop::compare::{Compared, compare_types};
-use step::node::{ALPHA_EQ, node, put_node};
+use prop::compare::Compared;
+use step::inference::Inference;
+use step::node::{node, put_node};
 use step::shift::shift;
-use step::state::{Ran, State, Want, count_of, inner, term_record};
+use step::state::{Answer, State, Want, term_record};
 
+// The kinds whose check is a comparison: Ident, the projections, Application. (Kinds of terms are bytes that are matched, as document 01's form has it:
+// here, where a term is begun, and where a rule has two kinds.)
+#[tactic(auto, unfolding(step::specs::Contract::synthesizes))]
 fn compares(kind: u8) -> bool
     ensures { result ≡ synthesizes kind }
 {
-    (kind == 0) | ((kind == 2) | ((kind == 3) | (kind == 5)))
+    matches!(kind, 0 | 2..=3 | 5)
 }
 
 // How term k is begun, if this is wanted of it.
@@ -29,8 +33,11 @@ pub fn begun_as(file: &[u8], k: Term, w: Want) -> Want
     requires { Counted file.now × (k.0 < terms file.now) }
     ensures { result ≡ begun_as (term_record file.now k.0).kind w }
 {
-    let r = term_record(file, k);
-    if compares(r.kind) { Want::Synth } else { w }
+    if compares(term_record(file, k).kind) {
+        Want::Synth
+    } else {
+        w
+    }
 }
 
 // Each of the other kinds by its rule.
@@ -43,16 +50,14 @@ pub fn begin(
     k: Term,
     wanted: Sort,
     st: State,
-) -> Next
+) -> Result<Next, Refusal>
     requires ready { Ready file.now (rooms tree.old goals.old props.old work.old) k.0 st }
     requires type_in { TypeIn (count_of file.now st) wanted }
     requires k_value { synthesizes (term_record file.now k.0).kind ≡ false }
     ensures { Begins file.now (rooms tree.old goals.old props.old work.old)
         (rooms tree.new goals.new props.new work.new) k.0 (Check wanted) st result }
 {
-    let r = term_record(file, k);
-    let kind = r.kind;
-    match kind {
+    match term_record(file, k).kind {
         1 => pair::check(file, props, work, k, wanted, st),
         4 => function::check(file, props, work, k, wanted, st),
         6 => let_in::begin(file, k, Want::Check(wanted), st),
@@ -62,7 +67,7 @@ pub fn begin(
         11 => unit::check(file, tree, props, k, wanted, st),
         12 => ascription::check(file, props, work, k, wanted, st),
         13 => sorry::check(tree, goals, work, k, wanted, st),
-        _ => Next::Refused(Refusal::at(11, k)),
+        _ => Err(Reason::CheckWrongTerm.at(k)),
     }
 }
 
@@ -71,51 +76,50 @@ fn hold(
     file: &[u8],
     tree: &mut [u8],
     props: &[u8],
-    k: Term,
+    f: Rule,
     wanted: Sort,
-    st: State,
-    t: Sort,
-    s: State,
-) -> Ran
-    requires ended { Ended file.now tree.old props.now k.0 (Check wanted) st t s }
-    requires k_value { synthesizes (term_record file.now k.0).kind ≡ true }
-    ensures { (c : Ended file.now tree.old props.now k.0 (Check wanted) st t s)
-        → RanAs file.now c.start (rooms tree.new c.goals props.now c.work) k.0 (Check wanted) st result }
+    a: Answer,
+) -> Result<Answer, Refusal>
+    requires ended { Ended file.now tree.old props.now f.term.0 (Check wanted) f.start a.typ a.state }
+    requires k_value { synthesizes (term_record file.now f.term.0).kind ≡ true }
+    ensures { (c : Ended file.now tree.old props.now f.term.0 (Check wanted) f.start a.typ a.state)
+        → RanAs file.now c.start (rooms tree.new c.goals props.now c.work) f.term.0 (Check wanted) f.start result }
 {
-    match compare_types(props, count_of(file, s), t, wanted) {
-        Compared::Equal => Ran::Has(wanted, s),
+    let k = f.term;
+    match a.state.held(file, props).compare_types(a.typ, wanted) {
+        Compared::Equal => Ok(Answer { typ: wanted, ..a }),
         Compared::Alpha => {
-            shift(tree, st.records, s.records);
-            let top = node(ALPHA_EQ, k, wanted, Serial::NONE, Serial::NONE, 1);
-            put_node(tree, st.records, top);
-            Ran::Has(wanted, inner(s))
+            let at = f.start.records;
+            shift(tree, at, a.state.records);
+            let top = node(Inference::AlphaEq, k, wanted, Serial::NONE, Serial::NONE, 1);
+            put_node(tree, at, top);
+            Ok(Answer {
+                typ: wanted,
+                state: a.state.inner(),
+            })
         }
-        Compared::Apart => Ran::Refused(Refusal::at(14, k)),
+        Compared::Apart => Err(Reason::CheckOtherType.at(k)),
     }
 }
 
-// The end of term k, whose rule is done.
+// The end of a rule that is done, with what is wanted of it, which may not be what it was begun as.
 pub fn settle(
     file: &[u8],
     tree: &mut [u8],
     props: &[u8],
-    k: Term,
-    w: Want,
-    st: State,
-    t: Sort,
-    s: State,
-) -> Ran
-    requires { Ended file.now tree.old props.now k.0 w st t s }
-    ensures { (c : Ended file.now tree.old props.now k.0 w st t s)
-        → RanAs file.now c.start (rooms tree.new c.goals props.now c.work) k.0 w st result }
+    f: Rule,
+    a: Answer,
+) -> Result<Answer, Refusal>
+    requires { Ended file.now tree.old props.now f.term.0 f.want f.start a.typ a.state }
+    ensures { (c : Ended file.now tree.old props.now f.term.0 f.want f.start a.typ a.state)
+        → RanAs file.now c.start (rooms tree.new c.goals props.now c.work) f.term.0 f.want f.start result }
 {
-    let Want::Check(wanted) = w else {
-        return Ran::Has(t, s);
+    let Want::Check(wanted) = f.want else {
+        return Ok(a);
     };
-    let r = term_record(file, k);
-    if compares(r.kind) {
-        hold(file, tree, props, k, wanted, st, t, s)
+    if compares(term_record(file, f.term).kind) {
+        hold(file, tree, props, f, wanted, a)
     } else {
-        Ran::Has(t, s)
+        Ok(a)
     }
 }

@@ -9,14 +9,15 @@ ghost use Rattle.step.specs.Rooms.{count_of, rooms};
 ghost use Rattle.rule.specs.declared.next.Rest.TheVariants.{Closes, Abstracts};
 ghost use Rattle.rule.specs.Going.{Here, Room, Begun, Begins, Resumes};
 
-use super::next::{Next, Rest, Rule};
-use numbers::refusal::Refusal;
+use super::next::{Next, Rest, Rule, proved};
+use numbers::refusal::{Reason, Refusal};
 use numbers::{Serial, Sort, Term};
-use step::enter::{enter, enter_fresh, new_identifier};
+use step::enter::{enter, enter_fresh};
+use step::inference::Inference;
 use step::node::{node, put_node};
-use step::open::{Abstracted, Opened, abstract_over, open_function};
-use step::state::{State, Want, answered, inner, term_record};
-use step::typing::{Agreed, Annotation, Resolving, agree, annotation_of, resolve_type};
+use step::open::{abstract_over, open_function};
+use step::state::{Answer, State, Want, term_record};
+use step::typing::{agree, annotation_of, resolve_type};
 
 pub fn check(
     file: &[u8],
@@ -25,7 +26,7 @@ pub fn check(
     k: Term,
     wanted: Sort,
     st: State,
-) -> Next
+) -> Result<Next, Refusal>
     requires begun { Begun file.now props.old work.old k.0 st }
     requires type_in { TypeIn (count_of file.now st) wanted }
     requires k_value { (term_record file.now k.0).kind ≡ 4 }
@@ -33,74 +34,53 @@ pub fn check(
         (rooms tree goals props.new work.new) k.0 (Check wanted) st result }
 {
     let r = term_record(file, k);
-    let x = r.name1;
-    let made = new_identifier(inner(st), x);
+    let made = st.inner().new_identifier(r.name1);
     let id = made.identifier;
     let i = id.serial;
-    let s = made.state;
-    match open_function(file, props, k, wanted, i, s) {
-        Opened::Refused(e) => Next::Refused(e),
-        Opened::Body(rule, a, b, s1) => match agree(file, props, work, k, annotation_of(r), a, s1) {
-            Agreed::Refused(e) => Next::Refused(e),
-            Agreed::On(s2) => {
-                let f = Rule {
-                    term: k,
-                    want: Want::Check(wanted),
-                    start: st,
-                };
-                let y = r.child1;
-                let s3 = enter(work, s2, id, a);
-                Next::Ask(
-                    f,
-                    Rest::Closes(rule, i),
-                    y,
-                    Want::Check(Sort::Proposition(b)),
-                    s3,
-                )
-            }
-        },
-    }
+    let o = open_function(file, props, k, wanted, i, made.state)?;
+    let s = agree(file, props, work, k, annotation_of(r), o.parameter, o.state)?;
+    let entered = enter(work, s, id, o.parameter);
+    let body = Want::Check(Sort::Proposition(o.body));
+    Ok(Next::Ask(Rest::Closes(o.rule, i), r.child1, body, entered))
 }
 
-pub fn closes(tree: &mut [u8], f: Rule, rule: u8, i: Serial, t: Sort, st: State) -> Next
+pub fn closes(
+    tree: &mut [u8],
+    f: Rule,
+    rule: Inference,
+    i: Serial,
+    a: Answer,
+) -> Result<Next, Refusal>
     requires { 16 * f.start.records + 16 ≤ length tree.old }
     ensures { (l goals ps work : List ℕ) → Resumes l (rooms tree.old goals ps work) (rooms tree.new goals ps work) f
-        (Closes rule i) t st result }
+        (Closes rule i) a.typ a.state result }
 {
-    let k = f.term;
-    let w = f.want;
-    let s = f.start;
-    let found = answered(w, t);
-    let top = node(rule, k, found, i, Serial::NONE, 1);
-    put_node(tree, s.records, top);
-    Next::Done(found, st)
+    let done = f.answered(a);
+    let top = node(rule, f.term, done.typ, i, Serial::NONE, 1);
+    put_node(tree, f.start.records, top);
+    Ok(Next::Done(done))
 }
 
-pub fn synthesize(file: &[u8], props: &mut [u8], work: &mut [u8], k: Term, st: State) -> Next
+pub fn synthesize(
+    file: &[u8],
+    props: &mut [u8],
+    work: &mut [u8],
+    k: Term,
+    st: State,
+) -> Result<Next, Refusal>
     requires begun { Begun file.now props.old work.old k.0 st }
     requires k_value { (term_record file.now k.0).kind ≡ 4 }
     ensures { (tree goals : List ℕ) → Begins file.now (rooms tree goals props.old work.old)
         (rooms tree goals props.new work.new) k.0 Synth st result }
 {
     let r = term_record(file, k);
-    let Annotation::Of(t) = annotation_of(r) else {
-        return Next::Refused(Refusal::at(21, k));
+    let Some(t) = annotation_of(r) else {
+        return Err(Reason::SynthNoAnnotation.at(k));
     };
-    match resolve_type(file, props, work, k, Want::Synth, t, st) {
-        Resolving::Refused(e) => Next::Refused(e),
-        Resolving::To(a, s) => {
-            let f = Rule {
-                term: k,
-                want: Want::Synth,
-                start: st,
-            };
-            let x = r.name1;
-            let y = r.child1;
-            let i = Serial(s.serials);
-            let s1 = enter_fresh(work, inner(s), x, a);
-            Next::Ask(f, Rest::Abstracts(i, a), y, Want::Synth, s1)
-        }
-    }
+    let a = resolve_type(file, props, work, k, Want::Synth, t, st)?;
+    let i = Serial(a.state.serials);
+    let entered = enter_fresh(work, a.state.inner(), r.name1, a.typ);
+    Ok(Next::Ask(Rest::Abstracts(i, a.typ), r.child1, Want::Synth, entered))
 }
 
 pub fn abstracts(
@@ -109,25 +89,20 @@ pub fn abstracts(
     props: &mut [u8],
     f: Rule,
     i: Serial,
-    a: Sort,
     t: Sort,
-    st: State,
-) -> Next
+    a: Answer,
+) -> Result<Next, Refusal>
     requires here { Here file.now f.term.0 }
-    requires room { Room file.now props.old st × TypeIn (count_of file.now st) a × TypeIn (count_of file.now st) t }
+    requires room { Room file.now props.old a.state × TypeIn (count_of file.now a.state) t × TypeIn (count_of file.now a.state) a.typ }
     requires records_in_bounds { 16 * f.start.records + 16 ≤ length tree.old }
     ensures { (goals work : List ℕ) → Resumes file.now (rooms tree.old goals props.old work)
-        (rooms tree.new goals props.new work) f (Abstracts i a) t st result }
+        (rooms tree.new goals props.new work) f (Abstracts i t) a.typ a.state result }
 {
     let k = f.term;
     let r = term_record(file, k);
-    let y = r.child1;
-    let Sort::Proposition(b) = t else {
-        return Next::Refused(Refusal::at(24, y));
+    let Sort::Proposition(b) = a.typ else {
+        return Err(Reason::SynthNoProposition.at(r.child1));
     };
-    let x = r.name1;
-    match abstract_over(file, props, k, x, i, a, b, st) {
-        Abstracted::Refused(e) => Next::Refused(e),
-        Abstracted::To(rule, m, s) => closes(tree, f, rule, i, Sort::Proposition(m), s),
-    }
+    let o = abstract_over(file, props, k, r.name1, i, t, b, a.state)?;
+    closes(tree, f, o.rule, i, proved(o.whole, o.state))
 }

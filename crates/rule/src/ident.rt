@@ -6,13 +6,20 @@ ghost use Rattle.step.specs.Rooms.{rooms};
 ghost use Rattle.rule.specs.Going.{Here, Place, Begins};
 
 use super::next::Next;
-use context::identifier_context::{Found, get_by_name};
-use numbers::refusal::Refusal;
+use context::identifier_context::get_by_name;
+use numbers::refusal::{Reason, Refusal};
 use numbers::{Serial, Term};
-use step::node::{IDENT, node, put_node};
-use step::state::{State, inner, term_record};
+use step::inference::Inference;
+use step::node::{node, put_node};
+use step::state::{Answer, State, term_record};
 
-pub fn synthesize(file: &[u8], tree: &mut [u8], work: &[u8], k: Term, st: State) -> Next
+pub fn synthesize(
+    file: &[u8],
+    tree: &mut [u8],
+    work: &[u8],
+    k: Term,
+    st: State,
+) -> Result<Next, Refusal>
     requires here { Here file.now k.0 }
     requires place { Place tree.old st }
     requires context_in_bounds { 8 * st.context ≤ length work.now }
@@ -21,13 +28,13 @@ pub fn synthesize(file: &[u8], tree: &mut [u8], work: &[u8], k: Term, st: State)
         (rooms tree.new goals ps work.now) k.0 Synth st result }
 {
     let r = term_record(file, k);
-    let x = r.name1;
-    let Found::Held(e) = get_by_name(work, st.context as usize, x) else {
-        return Next::Refused(Refusal::at(20, k));
+    let Some(e) = get_by_name(work, st.context as usize, r.name1) else {
+        return Err(Reason::SynthUnknownName.at(k));
     };
-    let t = e.typ;
-    let i = e.serial;
-    let top = node(IDENT, k, t, i, Serial::NONE, 0);
+    let top = node(Inference::Ident, k, e.typ, e.serial, Serial::NONE, 0);
     put_node(tree, st.records, top);
-    Next::Done(t, inner(st))
+    Ok(Next::Done(Answer {
+        typ: e.typ,
+        state: st.inner(),
+    }))
 }

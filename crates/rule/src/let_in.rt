@@ -11,46 +11,41 @@ ghost use Rattle.rule.specs.declared.next.Rest.TheVariants.{LetBody, LetEnd};
 ghost use Rattle.rule.specs.Going.{Here, Room, FreshTwo, Begins, Resumes};
 
 use super::next::{Next, Rest, Rule};
-use numbers::{Serial, Sort, Term};
-use step::node::{EXISTS_ELIM, node, put_node};
-use step::open::{Closed, Entered, close_let, open_let};
-use step::state::{State, Want, answered, inner, term_record};
+use numbers::refusal::Refusal;
+use numbers::{Serial, Term};
+use step::inference::Inference;
+use step::node::{node, put_node};
+use step::open::{close_let, open_let};
+use step::state::{Answer, State, Want, term_record};
 
-pub fn begin(file: &[u8], k: Term, w: Want, st: State) -> Next
+pub fn begin(file: &[u8], k: Term, w: Want, st: State) -> Result<Next, Refusal>
     requires here { Here file.now k.0 × (st.records < largest) }
     requires want_in { WantIn (count_of file.now st) w }
     requires k_value { (term_record file.now k.0).kind ≡ 6 }
     ensures { (R : Rooms) → Begins file.now R R k.0 w st result }
 {
     let r = term_record(file, k);
-    let x = r.child1;
-    let f = Rule {
-        term: k,
-        want: w,
-        start: st,
-    };
-    Next::Ask(f, Rest::LetBody, x, Want::Synth, inner(st))
+    Ok(Next::Ask(Rest::LetBody, r.child1, Want::Synth, st.inner()))
 }
 
-pub fn body(file: &[u8], props: &mut [u8], work: &mut [u8], f: Rule, t: Sort, st: State) -> Next
+pub fn body(
+    file: &[u8],
+    props: &mut [u8],
+    work: &mut [u8],
+    f: Rule,
+    a: Answer,
+) -> Result<Next, Refusal>
     requires here { Here file.now f.term.0 }
-    requires room { Room file.now props.old st × TypeIn (count_of file.now st) t }
-    requires fresh_two { FreshTwo work.old st }
+    requires room { Room file.now props.old a.state × TypeIn (count_of file.now a.state) a.typ }
+    requires fresh_two { FreshTwo work.old a.state }
     ensures { (tree goals : List ℕ) → Resumes file.now (rooms tree goals props.old work.old)
-        (rooms tree goals props.new work.new) f LetBody t st result }
+        (rooms tree goals props.new work.new) f LetBody a.typ a.state result }
 {
-    let k = f.term;
-    let w = f.want;
-    let r = term_record(file, k);
-    match open_let(file, props, work, k, w, r, t, st) {
-        Entered::Refused(e) => Next::Refused(e),
-        Entered::In(s) => {
-            let y = r.child2;
-            let i = Serial(st.serials);
-            let j = Serial(st.serials + 1);
-            Next::Ask(f, Rest::LetEnd(i, j), y, w, s)
-        }
-    }
+    let r = term_record(file, f.term);
+    let s = open_let(file, props, work, f.term, f.want, r, a.typ, a.state)?;
+    let i = Serial(a.state.serials);
+    let j = Serial(a.state.serials + 1);
+    Ok(Next::Ask(Rest::LetEnd(i, j), r.child2, f.want, s))
 }
 
 pub fn end(
@@ -60,26 +55,17 @@ pub fn end(
     f: Rule,
     i: Serial,
     j: Serial,
-    t: Sort,
-    st: State,
-) -> Next
+    a: Answer,
+) -> Result<Next, Refusal>
     requires here { Here file.now f.term.0 }
-    requires room { Room file.now props.now st × TypeIn (count_of file.now st) t }
+    requires room { Room file.now props.now a.state × TypeIn (count_of file.now a.state) a.typ }
     requires records_in_bounds { 16 * f.start.records + 16 ≤ length tree.old }
     ensures { (goals work : List ℕ) → Resumes file.now (rooms tree.old goals props.now work)
-        (rooms tree.new goals props.now work) f (LetEnd i j) t st result }
+        (rooms tree.new goals props.now work) f (LetEnd i j) a.typ a.state result }
 {
-    let k = f.term;
-    let w = f.want;
-    let s = f.start;
-    let r = term_record(file, k);
-    let y = r.child2;
-    match close_let(file, props, y, w, t, i, st) {
-        Closed::Refused(e) => Next::Refused(e),
-        Closed::Shut => {
-            let top = node(EXISTS_ELIM, k, t, i, j, 2);
-            put_node(tree, s.records, top);
-            Next::Done(answered(w, t), st)
-        }
-    }
+    let r = term_record(file, f.term);
+    close_let(file, props, r.child2, f.want, a.typ, i, a.state)?;
+    let top = node(Inference::ExistsElim, f.term, a.typ, i, j, 2);
+    put_node(tree, f.start.records, top);
+    Ok(Next::Done(f.answered(a)))
 }

@@ -1,13 +1,16 @@
 // A rule's program cut at its premises, and how a rule ends.
-ghost use Rattle.std.specs.Prelude.{List, ℕ, ◌+◌, ◌*◌, ◌≤◌, length};
+ghost use Rattle.std.specs.Prelude.{◌≡◌, List, ℕ, ◌+◌, ◌*◌, ◌≤◌, length};
+ghost use Rattle.numbers.specs.declared.Sort.TheVariants as sort;
+ghost use Rattle.step.specs.Modes.{answer_of};
 ghost use Rattle.step.specs.Rooms.{rooms};
 ghost use Rattle.rule.specs.declared.next.Rest.TheVariants.{By};
 ghost use Rattle.rule.specs.Going.{Resumes};
 
 use numbers::refusal::Refusal;
 use numbers::{Proposition, Serial, Sort, Term};
+use step::inference::Inference;
 use step::node::{node, put_node};
-use step::state::{State, Want, answered};
+use step::state::{Answer, State, Want};
 
 // A rule under way: its term, what is wanted of it, and the counts at its start.
 #[derive(Clone, Copy)]
@@ -17,20 +20,32 @@ pub struct Rule {
     pub start: State,
 }
 
+impl Rule {
+    // Its answer, where this was found.
+    pub(crate) fn answered(self, found: Answer) -> Answer
+        ensures { result ≡ record { typ = answer_of self.want found.typ; state = found.state } }
+    {
+        Answer {
+            typ: self.want.answered(found.typ),
+            ..found
+        }
+    }
+}
+
 // What is left of a rule after a premise.
 #[derive(Clone, Copy)]
 pub enum Rest {
-    // One node, of what is answered: the rule's number, and how many premises it had.
-    By(u8, u16),
+    // One node, of what is answered: by this rule, and how many premises it had.
+    By(Inference, u16),
     // Pair, checked: the right part, held to this; then one node, by this rule.
-    Right(u8, Proposition),
+    Right(Inference, Proposition),
     // Pair, synthesized: the right part; then both types, of which this is the left's.
     Second,
     Both(Sort),
     // A projection: the part of what was found.
     Part,
     // Function, checked: one node, by this rule, with this serial.
-    Closes(u8, Serial),
+    Closes(Inference, Serial),
     // Function, synthesized: its conclusion, from the parameter's serial and type.
     Abstracts(Serial, Sort),
     // Application: the argument; then what an Impl concludes, or the body of a ForAll with this object in it.
@@ -48,26 +63,38 @@ pub enum Rest {
     Aborts,
 }
 
-// What a rule comes to: it asks for a premise, and this is then left of it; a subterm is held to a type in its place; it is done; it is refused.
+// What a rule comes to, unless it is refused: it asks for a premise, and this is then left of it; a subterm is held to a type in its place; it is done.
 #[derive(Clone, Copy)]
 pub enum Next {
-    Ask(Rule, Rest, Term, Want, State),
+    Ask(Rest, Term, Want, State),
     Instead(Term, Sort, State),
-    Done(Sort, State),
-    Refused(Refusal),
+    Done(Answer),
+}
+
+// The answer that proposition b is proved.
+pub(crate) fn proved(b: Proposition, state: State) -> Answer
+    ensures { result ≡ record { typ = sort.Proposition b; state = state } }
+{
+    Answer {
+        typ: Sort::Proposition(b),
+        state,
+    }
 }
 
 // The end of a rule without serials of its own: its node, of what it answers, above so many premises.
-pub fn by(tree: &mut [u8], f: Rule, rule: u8, premises: u16, t: Sort, st: State) -> Next
+pub fn by(
+    tree: &mut [u8],
+    f: Rule,
+    rule: Inference,
+    premises: u16,
+    a: Answer,
+) -> Result<Next, Refusal>
     requires { 16 * f.start.records + 16 ≤ length tree.old }
     ensures { (l goals ps work : List ℕ) → Resumes l (rooms tree.old goals ps work) (rooms tree.new goals ps work) f
-        (By rule premises) t st result }
+        (By rule premises) a.typ a.state result }
 {
-    let k = f.term;
-    let w = f.want;
-    let s = f.start;
-    let found = answered(w, t);
-    let top = node(rule, k, found, Serial::NONE, Serial::NONE, premises);
-    put_node(tree, s.records, top);
-    Next::Done(found, st)
+    let done = f.answered(a);
+    let top = node(rule, f.term, done.typ, Serial::NONE, Serial::NONE, premises);
+    put_node(tree, f.start.records, top);
+    Ok(Next::Done(done))
 }

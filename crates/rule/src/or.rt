@@ -8,45 +8,29 @@ ghost use Rattle.step.specs.Rooms.{count_of, rooms};
 ghost use Rattle.rule.specs.Going.{Here, Room, Begins};
 
 use super::next::{Next, Rest, Rule};
-use numbers::refusal::Refusal;
+use numbers::refusal::{Reason, Refusal};
 use numbers::{Sort, Term};
-use prop::head::{Link, Parts, split};
-use step::node::{OR_INTRO_FST, OR_INTRO_SND};
-use step::state::{State, Want, count_of, inner, term_record};
+use prop::head::Link;
+use step::inference::Inference;
+use step::state::{State, Want, term_record};
 
-pub fn check(file: &[u8], props: &[u8], k: Term, wanted: Sort, st: State) -> Next
+pub fn check(file: &[u8], props: &[u8], k: Term, wanted: Sort, st: State) -> Result<Next, Refusal>
     requires here { Here file.now k.0 × (st.records < largest) }
     requires room { Room file.now props.now st × TypeIn (count_of file.now st) wanted }
     requires bound { (6 < (term_record file.now k.0).kind) × ((term_record file.now k.0).kind < 9) }
     ensures { (tree goals work : List ℕ) → Begins file.now (rooms tree goals props.now work)
         (rooms tree goals props.now work) k.0 (Check wanted) st result }
 {
-    let Parts::Both(a, b) = split(props, count_of(file, st), wanted, Link::Or) else {
-        return Next::Refused(Refusal::at(11, k));
+    let Some(parts) = st.held(file, props).split(wanted, Link::Or) else {
+        return Err(Reason::CheckWrongTerm.at(k));
     };
     let r = term_record(file, k);
-    let x = r.child1;
-    let f = Rule {
-        term: k,
-        want: Want::Check(wanted),
-        start: st,
-    };
-    let s = inner(st);
-    if r.kind == 7 {
-        Next::Ask(
-            f,
-            Rest::By(OR_INTRO_FST, 1),
-            x,
-            Want::Check(Sort::Proposition(a)),
-            s,
-        )
+    // 7 is OrLeft.
+    let (rule, part) = if r.kind == 7 {
+        (Inference::OrIntroFst, parts.left)
     } else {
-        Next::Ask(
-            f,
-            Rest::By(OR_INTRO_SND, 1),
-            x,
-            Want::Check(Sort::Proposition(b)),
-            s,
-        )
-    }
+        (Inference::OrIntroSnd, parts.right)
+    };
+    let held = Want::Check(Sort::Proposition(part));
+    Ok(Next::Ask(Rest::By(rule, 1), r.child1, held, st.inner()))
 }

@@ -12,16 +12,23 @@ ghost use Rattle.prop.specs.Head.{Unsplit};
 ghost use Rattle.rule.specs.declared.next.Rest.TheVariants.{Right, Second, Both};
 ghost use Rattle.rule.specs.Going.{Here, Room, Begins, Resumes};
 
-use super::next::{Next, Rest, Rule, by};
-use arena::make::{Made, make_and, put_in};
-use numbers::refusal::Refusal;
+use super::next::{Next, Rest, Rule, by, proved};
+use arena::make::{make_and, put_in};
+use numbers::refusal::{Reason, Refusal};
 use numbers::{Proposition, Sort, Term};
-use prop::head::{Link, Parts, Quant, Quantified, over, split};
-use step::node::{AND_INTRO, EXISTS_INTRO};
-use step::open::{Object, object_of};
-use step::state::{State, Want, count_of, grown, inner, left_of, term_record};
+use prop::head::{Link, Quant};
+use step::inference::Inference;
+use step::open::object_of;
+use step::state::{Answer, State, Want, term_record};
 
-pub fn check(file: &[u8], props: &mut [u8], work: &[u8], k: Term, wanted: Sort, st: State) -> Next
+pub fn check(
+    file: &[u8],
+    props: &mut [u8],
+    work: &[u8],
+    k: Term,
+    wanted: Sort,
+    st: State,
+) -> Result<Next, Refusal>
     requires here { Here file.now k.0 × (st.records < largest) }
     requires room { Room file.now props.old st × TypeIn (count_of file.now st) wanted }
     requires context_in_bounds { 8 * st.context ≤ length work.now }
@@ -29,27 +36,23 @@ pub fn check(file: &[u8], props: &mut [u8], work: &[u8], k: Term, wanted: Sort, 
     ensures { (tree goals : List ℕ) → Begins file.now (rooms tree goals props.old work.now)
         (rooms tree goals props.new work.now) k.0 (Check wanted) st result }
 {
-    let count = count_of(file, st);
-    let Parts::Both(a, b) = split(props, count, wanted, Link::And) else {
+    let Some(parts) = st.held(file, props).split(wanted, Link::And) else {
         return exists(file, props, work, k, wanted, st);
     };
     let r = term_record(file, k);
-    let x = r.child1;
-    let f = Rule {
-        term: k,
-        want: Want::Check(wanted),
-        start: st,
-    };
-    Next::Ask(
-        f,
-        Rest::Right(AND_INTRO, b),
-        x,
-        Want::Check(Sort::Proposition(a)),
-        inner(st),
-    )
+    let left = Want::Check(Sort::Proposition(parts.left));
+    let rest = Rest::Right(Inference::AndIntro, parts.right);
+    Ok(Next::Ask(rest, r.child1, left, st.inner()))
 }
 
-fn exists(file: &[u8], props: &mut [u8], work: &[u8], k: Term, wanted: Sort, st: State) -> Next
+fn exists(
+    file: &[u8],
+    props: &mut [u8],
+    work: &[u8],
+    k: Term,
+    wanted: Sort,
+    st: State,
+) -> Result<Next, Refusal>
     requires here { Here file.now k.0 × (st.records < largest) }
     requires room { Room file.now props.old st × TypeIn (count_of file.now st) wanted }
     requires context_in_bounds { 8 * st.context ≤ length work.now }
@@ -58,75 +61,53 @@ fn exists(file: &[u8], props: &mut [u8], work: &[u8], k: Term, wanted: Sort, st:
     ensures { (tree goals : List ℕ) → Begins file.now (rooms tree goals props.old work.now)
         (rooms tree goals props.new work.now) k.0 (Check wanted) st result }
 {
-    let count = count_of(file, st);
-    let Quantified::Over { datatype, body } = over(props, count, wanted, Quant::Ex) else {
-        return Next::Refused(Refusal::at(11, k));
+    let held = st.held(file, props);
+    let Some(ex) = held.over(wanted, Quant::Ex) else {
+        return Err(Reason::CheckWrongTerm.at(k));
     };
+    let count = held.count;
     let r = term_record(file, k);
-    let x = r.child1;
     let w = Want::Check(wanted);
-    match object_of(file, work, w, x, st) {
-        Object::Refused(r) => Next::Refused(r),
-        Object::Known(i) => {
-            let Made::At(m, end) = put_in(props, count, left_of(st), body, i) else {
-                return Next::Refused(Refusal::at(30, k));
-            };
-            let f = Rule {
-                term: k,
-                want: w,
-                start: st,
-            };
-            let s = inner(grown(st, count, end));
-            Next::Ask(
-                f,
-                Rest::Right(EXISTS_INTRO, m),
-                x,
-                Want::Check(Sort::Datatype(datatype)),
-                s,
-            )
-        }
-    }
+    let i = object_of(file, work, w, r.child1, st)?;
+    let Some(m) = put_in(props, count, st.left(), ex.body, i) else {
+        return Err(Reason::TooManyMade.at(k));
+    };
+    let s = st.grown(count, m.count).inner();
+    let witness = Want::Check(Sort::Datatype(ex.datatype));
+    let rest = Rest::Right(Inference::ExistsIntro, m.at);
+    Ok(Next::Ask(rest, r.child1, witness, s))
 }
 
-pub fn right(file: &[u8], f: Rule, rule: u8, b: Proposition, st: State) -> Next
+pub fn right(
+    file: &[u8],
+    f: Rule,
+    rule: Inference,
+    b: Proposition,
+    st: State,
+) -> Result<Next, Refusal>
     requires { Here file.now f.term.0 }
     ensures { (R : Rooms) (t : Sort) → Resumes file.now R R f (Right rule b) t st result }
 {
-    let k = f.term;
-    let r = term_record(file, k);
-    let y = r.child2;
-    Next::Ask(
-        f,
-        Rest::By(rule, 2),
-        y,
-        Want::Check(Sort::Proposition(b)),
-        st,
-    )
+    let r = term_record(file, f.term);
+    let held = Want::Check(Sort::Proposition(b));
+    Ok(Next::Ask(Rest::By(rule, 2), r.child2, held, st))
 }
 
-pub fn synthesize(file: &[u8], k: Term, st: State) -> Next
+pub fn synthesize(file: &[u8], k: Term, st: State) -> Result<Next, Refusal>
     requires here { Here file.now k.0 × (st.records < largest) }
     requires k_value { (term_record file.now k.0).kind ≡ 1 }
     ensures { (R : Rooms) → Begins file.now R R k.0 Synth st result }
 {
     let r = term_record(file, k);
-    let x = r.child1;
-    let f = Rule {
-        term: k,
-        want: Want::Synth,
-        start: st,
-    };
-    Next::Ask(f, Rest::Second, x, Want::Synth, inner(st))
+    Ok(Next::Ask(Rest::Second, r.child1, Want::Synth, st.inner()))
 }
 
-pub fn second(file: &[u8], f: Rule, t: Sort, st: State) -> Next
+pub fn second(file: &[u8], f: Rule, a: Answer) -> Result<Next, Refusal>
     requires { Here file.now f.term.0 }
-    ensures { (R : Rooms) → Resumes file.now R R f Second t st result }
+    ensures { (R : Rooms) → Resumes file.now R R f Second a.typ a.state result }
 {
-    let k = f.term;
-    let r = term_record(file, k);
-    let y = r.child2;
-    Next::Ask(f, Rest::Both(t), y, Want::Synth, st)
+    let r = term_record(file, f.term);
+    Ok(Next::Ask(Rest::Both(a.typ), r.child2, Want::Synth, a.state))
 }
 
 pub fn both(
@@ -135,32 +116,25 @@ pub fn both(
     props: &mut [u8],
     f: Rule,
     t: Sort,
-    u: Sort,
-    st: State,
-) -> Next
+    a: Answer,
+) -> Result<Next, Refusal>
     requires here { Here file.now f.term.0 }
-    requires room { Room file.now props.old st × TypeIn (count_of file.now st) t × TypeIn (count_of file.now st) u }
+    requires room { Room file.now props.old a.state × TypeIn (count_of file.now a.state) t × TypeIn (count_of file.now a.state) a.typ }
     requires records_in_bounds { 16 * f.start.records + 16 ≤ length tree.old }
     ensures { (goals work : List ℕ) → Resumes file.now (rooms tree.old goals props.old work)
-        (rooms tree.new goals props.new work) f (Both t) u st result }
+        (rooms tree.new goals props.new work) f (Both t) a.typ a.state result }
 {
     let k = f.term;
-    let Sort::Proposition(b) = u else {
-        return Next::Refused(Refusal::at(23, k));
+    let Sort::Proposition(b) = a.typ else {
+        return Err(Reason::SynthPairOfObject.at(k));
     };
-    let Sort::Proposition(a) = t else {
-        return Next::Refused(Refusal::at(25, k));
+    let Sort::Proposition(p) = t else {
+        return Err(Reason::SynthNoType.at(k));
     };
-    let count = count_of(file, st);
-    let Made::At(m, end) = make_and(props, count, left_of(st), a, b) else {
-        return Next::Refused(Refusal::at(30, k));
+    let count = a.state.count(file);
+    let Some(m) = make_and(props, count, a.state.left(), p, b) else {
+        return Err(Reason::TooManyMade.at(k));
     };
-    by(
-        tree,
-        f,
-        AND_INTRO,
-        2,
-        Sort::Proposition(m),
-        grown(st, count, end),
-    )
+    let whole = proved(m.at, a.state.grown(count, m.count));
+    by(tree, f, Inference::AndIntro, 2, whole)
 }

@@ -8,8 +8,8 @@ ghost use Rattle.rule.specs.Going.{Here, Room, Held, Resumes};
 
 use super::next::{Next, Rest, Rule, by};
 use super::{abort, application, case, function, let_in, pair, projection};
-use numbers::Sort;
-use step::state::State;
+use numbers::refusal::Refusal;
+use step::state::Answer;
 
 pub fn resume(
     file: &[u8],
@@ -18,33 +18,32 @@ pub fn resume(
     work: &mut [u8],
     f: Rule,
     rest: Rest,
-    t: Sort,
-    st: State,
-) -> Next
+    a: Answer,
+) -> Result<Next, Refusal>
     requires here { Here file.now f.term.0 }
-    requires room { Room file.now props.old st × TypeIn (count_of file.now st) t }
-    requires held { Held (count_of file.now st) work.old st rest }
+    requires room { Room file.now props.old a.state × TypeIn (count_of file.now a.state) a.typ }
+    requires held { Held (count_of file.now a.state) work.old a.state rest }
     requires inside { Inside file.now f.term.0 (after (term_record file.now f.term.0) rest) }
     requires records_in_bounds { 16 * f.start.records + 16 ≤ length tree.old }
     ensures { (goals : List ℕ) → Resumes file.now (rooms tree.old goals props.old work.old)
-        (rooms tree.new goals props.new work.new) f rest t st result }
+        (rooms tree.new goals props.new work.new) f rest a.typ a.state result }
 {
     match rest {
-        Rest::By(rule, premises) => by(tree, f, rule, premises, t, st),
-        Rest::Right(rule, b) => pair::right(file, f, rule, b, st),
-        Rest::Second => pair::second(file, f, t, st),
-        Rest::Both(a) => pair::both(file, tree, props, f, a, t, st),
-        Rest::Part => projection::part(file, tree, props, f, t, st),
-        Rest::Closes(rule, i) => function::closes(tree, f, rule, i, t, st),
-        Rest::Abstracts(i, a) => function::abstracts(file, tree, props, f, i, a, t, st),
-        Rest::Argument => application::argument(file, props, work, f, t, st),
-        Rest::Concludes(b) => application::concludes(tree, f, b, st),
-        Rest::Instance(i, body) => application::instance(file, tree, props, f, i, body, st),
-        Rest::LetBody => let_in::body(file, props, work, f, t, st),
-        Rest::LetEnd(i, j) => let_in::end(file, tree, props, f, i, j, t, st),
-        Rest::CaseLeft => case::left(file, props, work, f, t, st),
-        Rest::CaseRight(i, b) => case::right(file, work, f, i, b, t, st),
-        Rest::CaseEnd(i, j, a) => case::end(file, tree, props, f, i, j, a, t, st),
-        Rest::Aborts => abort::aborts(tree, f, t, st),
+        Rest::By(rule, premises) => by(tree, f, rule, premises, a),
+        Rest::Right(rule, b) => pair::right(file, f, rule, b, a.state),
+        Rest::Second => pair::second(file, f, a),
+        Rest::Both(t) => pair::both(file, tree, props, f, t, a),
+        Rest::Part => projection::part(file, tree, props, f, a),
+        Rest::Closes(rule, i) => function::closes(tree, f, rule, i, a),
+        Rest::Abstracts(i, t) => function::abstracts(file, tree, props, f, i, t, a),
+        Rest::Argument => application::argument(file, props, work, f, a),
+        Rest::Concludes(b) => application::concludes(tree, f, b, a.state),
+        Rest::Instance(i, body) => application::instance(file, tree, props, f, i, body, a.state),
+        Rest::LetBody => let_in::body(file, props, work, f, a),
+        Rest::LetEnd(i, j) => let_in::end(file, tree, props, f, i, j, a),
+        Rest::CaseLeft => case::left(file, props, work, f, a),
+        Rest::CaseRight(i, b) => case::right(file, work, f, i, b, a),
+        Rest::CaseEnd(i, j, t) => case::end(file, tree, props, f, i, j, t, a),
+        Rest::Aborts => abort::aborts(tree, f, a),
     }
 }

@@ -10,10 +10,12 @@ ghost use Rattle.step.specs.Rooms.{run_room};
 ghost use Rattle.rule.specs.Going.{Place, Begins};
 
 use super::next::Next;
+use numbers::refusal::Refusal;
 use numbers::{Serial, Sort, Term};
-use step::node::{SORRY, goal_of, node, put_goal, put_node};
+use step::inference::Inference;
+use step::node::{goal_of, node, put_goal, put_node};
 use step::picture::picture;
-use step::state::{State, inner};
+use step::state::{Answer, State};
 
 pub fn check(
     tree: &mut [u8],
@@ -22,7 +24,7 @@ pub fn check(
     k: Term,
     wanted: Sort,
     st: State,
-) -> Next
+) -> Result<Next, Refusal>
     requires place { Place tree.old st }
     requires goals_in_bounds { (8 * st.goals + 8 ≤ length goals.old) × (st.goals < largest) }
     requires run_room_in_bounds { (run_room ≤ length work.old) × (st.context ≤ most_entries) }
@@ -30,11 +32,14 @@ pub fn check(
         (rooms tree.old goals.old ps work.old) (rooms tree.new goals.new ps work.new)
         k.0 (Check wanted) st result }
 {
-    let leaf = node(SORRY, k, wanted, Serial::NONE, Serial::NONE, 0);
+    let leaf = node(Inference::Sorry, k, wanted, Serial::NONE, Serial::NONE, 0);
     put_node(tree, st.records, leaf);
     put_goal(goals, st.goals, goal_of(k, wanted, st.context));
     picture(work, wanted, st);
-    let mut s = inner(st);
+    let mut s = st.inner();
     s.goals += 1;
-    Next::Done(wanted, s)
+    Ok(Next::Done(Answer {
+        typ: wanted,
+        state: s,
+    }))
 }

@@ -7,14 +7,21 @@ ghost use Rattle.step.specs.Rooms.{count_of, rooms};
 ghost use Rattle.rule.specs.Going.{Here, Room, Place, Begins};
 
 use super::next::Next;
-use arena::make::{Made, make_constant};
-use numbers::refusal::Refusal;
+use arena::make::make_constant;
+use numbers::refusal::{Reason, Refusal};
 use numbers::{Serial, Sort, Term};
-use prop::head::is_truth;
-use step::node::{TRUE_INTRO, node, put_node};
-use step::state::{State, count_of, grown, inner, left_of};
+use step::inference::Inference;
+use step::node::{node, put_node};
+use step::state::{Answer, State};
 
-pub fn check(file: &[u8], tree: &mut [u8], props: &[u8], k: Term, wanted: Sort, st: State) -> Next
+pub fn check(
+    file: &[u8],
+    tree: &mut [u8],
+    props: &[u8],
+    k: Term,
+    wanted: Sort,
+    st: State,
+) -> Result<Next, Refusal>
     requires here { Here file.now k.0 }
     requires room { Room file.now props.now st × TypeIn (count_of file.now st) wanted }
     requires place { Place tree.old st }
@@ -22,16 +29,32 @@ pub fn check(file: &[u8], tree: &mut [u8], props: &[u8], k: Term, wanted: Sort, 
     ensures { (goals work : List ℕ) → Begins file.now (rooms tree.old goals props.now work)
         (rooms tree.new goals props.now work) k.0 (Check wanted) st result }
 {
-    if is_truth(props, count_of(file, st), wanted) {
-        let top = node(TRUE_INTRO, k, wanted, Serial::NONE, Serial::NONE, 0);
+    if st.held(file, props).is_truth(wanted) {
+        let top = node(
+            Inference::TrueIntro,
+            k,
+            wanted,
+            Serial::NONE,
+            Serial::NONE,
+            0,
+        );
         put_node(tree, st.records, top);
-        Next::Done(wanted, inner(st))
+        Ok(Next::Done(Answer {
+            typ: wanted,
+            state: st.inner(),
+        }))
     } else {
-        Next::Refused(Refusal::at(11, k))
+        Err(Reason::CheckWrongTerm.at(k))
     }
 }
 
-pub fn synthesize(file: &[u8], tree: &mut [u8], props: &mut [u8], k: Term, st: State) -> Next
+pub fn synthesize(
+    file: &[u8],
+    tree: &mut [u8],
+    props: &mut [u8],
+    k: Term,
+    st: State,
+) -> Result<Next, Refusal>
     requires here { Here file.now k.0 }
     requires room { Room file.now props.old st }
     requires place { Place tree.old st }
@@ -39,12 +62,15 @@ pub fn synthesize(file: &[u8], tree: &mut [u8], props: &mut [u8], k: Term, st: S
     ensures { (goals work : List ℕ) → Begins file.now (rooms tree.old goals props.old work)
         (rooms tree.new goals props.new work) k.0 Synth st result }
 {
-    let count = count_of(file, st);
-    let Made::At(m, end) = make_constant(props, count, left_of(st), true) else {
-        return Next::Refused(Refusal::at(30, k));
+    let count = st.count(file);
+    let Some(m) = make_constant(props, count, st.left(), true) else {
+        return Err(Reason::TooManyMade.at(k));
     };
-    let t = Sort::Proposition(m);
-    let top = node(TRUE_INTRO, k, t, Serial::NONE, Serial::NONE, 0);
+    let t = Sort::Proposition(m.at);
+    let top = node(Inference::TrueIntro, k, t, Serial::NONE, Serial::NONE, 0);
     put_node(tree, st.records, top);
-    Next::Done(t, inner(grown(st, count, end)))
+    Ok(Next::Done(Answer {
+        typ: t,
+        state: st.grown(count, m.count).inner(),
+    }))
 }

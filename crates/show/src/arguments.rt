@@ -1,6 +1,5 @@
 // A program's arguments: as text, as a number, and as the name of a file to write.
-ghost use Rattle.std.specs.Prelude.{◌≤◌, IfSome};
-ghost use Rattle.show.specs.Counts.{IsPrefixLen};
+ghost use Rattle.std.specs.Prelude.{◌<◌, ◌≤◌, length, IfSome};
 
 use super::failure::{tell, tell_error};
 use std::env::FillError;
@@ -13,21 +12,20 @@ pub const ARGUMENT: usize = 4096;
 
 // How many arguments the program was started with, its own name among them.
 pub fn argument_count<R: Env>(rt: &R) -> usize {
-    let mut room = [0u8; 1];
     for i in 0..usize::MAX {
-        if let Err(FillError::NotPresent) = rt.arg(i, &mut room) {
+        if let Err(FillError::NotPresent) = rt.arg(i, &mut [0]) {
             return i;
         }
     }
     usize::MAX
 }
 
-// The text of argument i at the start of the room. The answer counts its bytes, or is `None` where it does not fit; standard error then says so.
-pub fn text_argument<R: Env + Eprint>(rt: &R, i: usize, room: &mut [u8]) -> Option<usize>
-    ensures { IfSome result (λ n. IsPrefixLen n room.new) }
+// The text of argument i, which then stands at the start of the room; or `None` where it does not fit: standard error then says so.
+pub fn text_argument<'a, R: Env + Eprint>(rt: &R, i: usize, room: &'a mut [u8]) -> Option<&'a [u8]>
+    ensures { IfSome result (λ text. length text.now ≤ length room.old) }
 {
     match rt.arg(i, room) {
-        Ok(n) => Some(n),
+        Ok(n) => Some(&room[..n]),
         Err(FillError::TooLong) => {
             tell(rt, "an argument", "File name too long");
             None
@@ -39,56 +37,40 @@ pub fn text_argument<R: Env + Eprint>(rt: &R, i: usize, room: &mut [u8]) -> Opti
     }
 }
 
-// What a text spells: a number, or something else.
-#[derive(Clone, Copy)]
-pub enum Numeral {
-    Number(u16),
-    Other,
-}
-
-// A decimal digit's value; 10 for any other byte.
-fn digit(b: u8) -> u16
-    ensures { result ≤ 10 }
+// A decimal digit's value.
+fn digit(b: u8) -> Option<u16>
+    ensures { IfSome result (λ d. d < 10) }
 {
-    if b < b'0' {
-        return 10;
-    }
-    if b'9' < b {
-        return 10;
-    }
-    (b - b'0') as u16
+    let d = char::from(b).to_digit(10)?;
+    Some(d as u16)
 }
 
 // The number with one digit more. The largest stands for all that are about as large or larger: nothing that a program counts goes so far.
 fn longer(n: u16, d: u16) -> u16
     requires { d ≤ 10 }
 {
-    if n < 6553 { 10 * n + d } else { u16::MAX }
+    if n < u16::MAX / 10 {
+        10 * n + d
+    } else {
+        u16::MAX
+    }
 }
 
-// One decimal digit or more.
-fn number_of(spelled: &[u8]) -> Numeral {
-    if spelled.len() == 0 {
-        return Numeral::Other;
+// What a text spells, where it is one decimal digit or more.
+fn number_of(spelled: &[u8]) -> Option<u16> {
+    if spelled.is_empty() {
+        return None;
     }
     let mut n = 0;
     for b in spelled {
-        let d = digit(*b);
-        if d == 10 {
-            return Numeral::Other;
-        }
-        n = longer(n, d);
+        n = longer(n, digit(*b)?);
     }
-    Numeral::Number(n)
+    Some(n)
 }
 
-// What argument i spells.
-pub fn number_argument<R: Env + Eprint>(rt: &R, i: usize) -> Numeral {
-    let mut room = [0u8; ARGUMENT];
-    match text_argument(rt, i, &mut room) {
-        Some(n) => number_of(&room[..n]),
-        None => Numeral::Other,
-    }
+// What argument i spells, where it is a number.
+pub fn number_argument<R: Env + Eprint>(rt: &R, i: usize) -> Option<u16> {
+    number_of(text_argument(rt, i, &mut [0; ARGUMENT])?)
 }
 
 // A file's name as text, which is what the library opens; where it is none, standard error says so.
@@ -122,8 +104,7 @@ fn write_named<R: Files + Eprint>(rt: &R, spelled: &[u8], bytes: &[u8]) {
 
 // Writes the bytes to the file that argument i names. Where that fails, standard error says why.
 pub fn write_argument<R: Env + Files + Eprint>(rt: &R, i: usize, bytes: &[u8]) {
-    let mut room = [0u8; ARGUMENT];
-    if let Some(n) = text_argument(rt, i, &mut room) {
-        write_named(rt, &room[..n], bytes);
+    if let Some(spelled) = text_argument(rt, i, &mut [0; ARGUMENT]) {
+        write_named(rt, spelled, bytes);
     }
 }

@@ -1,5 +1,5 @@
 // How programs read: a whole file, or tables from standard input, each after its length.
-ghost use Rattle.std.specs.Prelude.{◌<◌, IfSome, IfOk};
+ghost use Rattle.std.specs.Prelude.{◌≤◌, length, IfSome, IfOk};
 ghost use Rattle.show.specs.Counts.{IsPrefixLen};
 
 use super::arguments::{ARGUMENT, name_of, text_argument};
@@ -16,17 +16,15 @@ pub const LONGEST: usize = 65536;
 fn read_some<R: Read>(from: &mut R, room: &mut [u8]) -> usize
     ensures { IsPrefixLen result room.new }
 {
-    match from.read(room) {
-        Ok(n) => n,
-        Err(_) => 0,
-    }
+    from.read(room).unwrap_or(0)
 }
 
-// Reads until the room is full, the input ends or a read fails. The answer counts the bytes that are then at the room's start.
-fn read_full<R: Read>(from: &mut R, room: &mut [u8]) -> usize
-    ensures { IsPrefixLen result room.new }
+// Reads until the room is full, the input ends or a read fails. The answer is what then stands at the room's start.
+fn read_full<'a, R: Read>(from: &mut R, room: &'a mut [u8]) -> &'a [u8]
+    ensures { length result.now ≤ length room.old }
 {
     let mut done = 0;
+    // No `for`: each read gives as many as it will.
     while done < room.len() {
         let n = read_some(from, &mut room[done..]);
         if n == 0 {
@@ -34,34 +32,32 @@ fn read_full<R: Read>(from: &mut R, room: &mut [u8]) -> usize
         }
         done += n;
     }
-    done
+    &room[..done]
 }
 
 // `read_full` does not say why it stopped. At a file's end one more read gives nothing; after a failure it fails again.
 fn fails<R: Read>(from: &mut R) -> io::Result<()> {
-    let mut one = [0u8; 1];
-    from.read(&mut one)?;
+    from.read(&mut [0])?;
     Ok(())
 }
 
 // The first bytes of a file, as many as the room has.
-fn read_open<R: Files>(rt: &R, path: &str, room: &mut [u8]) -> io::Result<usize>
-    ensures { IfOk result (λ n. IsPrefixLen n room.new) }
+fn read_open<'a, R: Files>(rt: &R, path: &str, room: &'a mut [u8]) -> io::Result<&'a [u8]>
+    ensures { IfOk result (λ bytes. length bytes.now ≤ length room.old) }
 {
     let mut file = fs::open(rt, path)?;
-    let got = read_full(&mut file, room);
+    let bytes = read_full(&mut file, room);
     fails(&mut file)?;
-    Ok(got)
+    Ok(bytes)
 }
 
-// The same, of a file by its name. The answer counts them, or is `None` where the file cannot be read; standard error then says which it is and
-// why.
-fn read_file<R: Files + Eprint>(rt: &R, spelled: &[u8], room: &mut [u8]) -> Option<usize>
-    ensures { IfSome result (λ n. IsPrefixLen n room.new) }
+// The same, of a file by its name; or `None` where the file cannot be read: standard error then says which it is and why.
+fn read_file<'a, R: Files + Eprint>(rt: &R, spelled: &[u8], room: &'a mut [u8]) -> Option<&'a [u8]>
+    ensures { IfSome result (λ bytes. length bytes.now ≤ length room.old) }
 {
     let path = name_of(rt, spelled)?;
     match read_open(rt, path, room) {
-        Ok(got) => Some(got),
+        Ok(bytes) => Some(bytes),
         Err(e) => {
             tell_error(rt, path, e);
             None
@@ -70,54 +66,42 @@ fn read_file<R: Files + Eprint>(rt: &R, spelled: &[u8], room: &mut [u8]) -> Opti
 }
 
 // The same of the file that argument i names.
-pub fn read_argument<R: Env + Files + Eprint>(rt: &R, i: usize, room: &mut [u8]) -> Option<usize>
-    ensures { IfSome result (λ n. IsPrefixLen n room.new) }
+pub fn read_argument<'a, R: Env + Files + Eprint>(
+    rt: &R,
+    i: usize,
+    room: &'a mut [u8],
+) -> Option<&'a [u8]>
+    ensures { IfSome result (λ bytes. length bytes.now ≤ length room.old) }
 {
     let mut path = [0u8; ARGUMENT];
-    let n = text_argument(rt, i, &mut path)?;
-    read_file(rt, &path[..n], room)
-}
-
-fn wide(b: u8) -> usize
-    ensures { result < 256 }
-{
-    b as usize
+    let spelled = text_argument(rt, i, &mut path)?;
+    read_file(rt, spelled, room)
 }
 
 // The next 32-bit number of the input, low byte first; 0 where the input ends.
 pub fn next_word<R: Read>(from: &mut R) -> usize {
     let mut four = [0u8; 4];
-    let got = read_full(from, &mut four);
-    if got < 4 {
+    if read_full(from, &mut four).len() < 4 {
         return 0;
     }
-    wide(four[0]) + 256 * wide(four[1]) + 65536 * wide(four[2]) + 16777216 * wide(four[3])
-}
-
-// Whether there was a byte to skip.
-fn skip_byte<R: Read>(from: &mut R) -> bool {
-    let mut one = [0u8; 1];
-    let got = read_full(from, &mut one);
-    got == 1
+    u32::from_le_bytes(four) as usize
 }
 
 // Reads so many bytes and forgets them, or as many as there are.
 fn skip<R: Read>(from: &mut R, count: usize) {
     for _ in 0..count {
-        if !skip_byte(from) {
+        if read_full(from, &mut [0]).is_empty() {
             return;
         }
     }
 }
 
-// The first bytes of a table of that length, as many as the room has; the others are skipped. The answer counts them.
-pub fn read_table<R: Read>(from: &mut R, room: &mut [u8], length: usize) -> usize
-    ensures { IsPrefixLen result room.new }
+// The first bytes of a table of that length, as many as the room has; the others are skipped.
+pub fn read_table<'a, R: Read>(from: &mut R, room: &'a mut [u8], size: usize) -> &'a [u8]
+    ensures { length result.now ≤ length room.old }
 {
-    if length <= room.len() {
-        return read_full(from, &mut room[..length]);
-    }
-    let got = read_full(from, room);
-    skip(from, length - room.len());
-    got
+    let most = size.min(room.len());
+    let table = read_full(from, &mut room[..most]);
+    skip(from, size - most);
+    table
 }

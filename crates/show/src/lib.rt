@@ -1,12 +1,10 @@
 // What programs print of the answers, and how they read tables: no logic.
 #![tactic(auto)]
 
-ghost use Rattle.std.specs.Prelude.{◌≡◌, ◌<◌};
-
+use input::next_word;
 use numbers::refusal::Refusal;
 use std::io;
-use std::io::{BufWriter, Printer, Write};
-use table::Verdict;
+use std::io::{BufWriter, Printer, Read, Write};
 
 pub mod arguments;
 pub mod failure;
@@ -22,51 +20,42 @@ pub fn output<R: Print + Alloc>(rt: &R) -> BufWriter<Printer<'_, R>, R::A> {
     }
 }
 
-pub fn text<W: Write>(out: &mut W, bytes: &[u8]) -> io::Result<()> {
-    out.write_all(bytes)
-}
-
-pub fn number<W: Write>(out: &mut W, n: u64) -> io::Result<()> {
-    write!(out, "{n}")
-}
-
-// A number after a space.
-pub fn spaced<W: Write>(out: &mut W, n: u16) -> io::Result<()> {
-    text(out, b" ")?;
-    number(out, n as u64)
-}
-
-// A record's number, to find it in its room by.
-pub fn index(n: u16) -> usize
-    ensures { (result ≡ n) × (result < 65536) }
+// Answers the input's tables in turn, each after its length, until a length is 0 or the input ends. An answer stands between a line with its number and
+// an empty one; `answer` reads the table, of that length, and what else there is to read.
+pub fn each<R: Read, W: Write, F: Fn(&mut R, &mut W, usize) -> io::Result<()>>(
+    from: &mut R,
+    out: &mut W,
+    answer: F,
+) -> io::Result<()>
+    requires { F.IsAlwaysCallable answer }
 {
-    n as usize
-}
-
-// The line before an answer whose number is `count`, where there are many.
-pub fn heading<W: Write>(out: &mut W, count: u64) -> io::Result<()> {
-    text(out, b"table ")?;
-    number(out, count)?;
-    text(out, b"\n")
+    for count in 0..u64::MAX {
+        let size = next_word(from);
+        if size == 0 {
+            break;
+        }
+        writeln!(out, "table {count}")?;
+        answer(from, out, size)?;
+        writeln!(out)?;
+    }
+    Ok(())
 }
 
 // `refused` with the number and the place. The line's end is left to the caller.
 pub fn refusal<W: Write>(out: &mut W, e: Refusal) -> io::Result<()> {
-    text(out, b"refused")?;
-    spaced(out, e.number as u16)?;
-    spaced(out, e.place)
+    write!(out, "refused {} {}", e.number, e.place)
 }
 
 // The same as a line.
 pub fn refused<W: Write>(out: &mut W, e: Refusal) -> io::Result<()> {
     refusal(out, e)?;
-    text(out, b"\n")
+    writeln!(out)
 }
 
 // `passes`, or the refusal.
-pub fn answer<W: Write>(out: &mut W, v: Verdict) -> io::Result<()> {
-    match v {
-        Verdict::Passes => text(out, b"passes\n"),
-        Verdict::Refused(e) => refused(out, e),
+pub fn answer<W: Write>(out: &mut W, verdict: Result<(), Refusal>) -> io::Result<()> {
+    match verdict {
+        Ok(()) => writeln!(out, "passes"),
+        Err(e) => refused(out, e),
     }
 }

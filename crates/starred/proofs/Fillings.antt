@@ -8,6 +8,7 @@ use native.Mathlib.Omega.{arith}
 use native.Mathlib.Nat.{le_of_suc-le-suc, not-suc-le-zero}
 use lib.Dec.{ltb, T, leb→le}
 use lib.ListN.{length}
+use Rattle.std.specs.Prelude.{Ok}
 use Rattle.rules.specs.State.{St}
 use Rattle.rules.specs.Tree.{Gap, holes}
 use Rattle.rules.specs.Term.{plug}
@@ -15,7 +16,6 @@ use Rattle.rules.specs.Step.{Out, stop, ok, Answer}
 use Rattle.rules.specs.Filling.{At, here, within, before, at_goal}
 use Rattle.rules.specs.Cases.{line, no, yes, mark, ident, unit}
 use Rattle.table.specs.declared.Purpose.TheVariants.{Filling}
-use Rattle.table.specs.declared.Verdict.TheVariants.{Passes}
 use Rattle.table.specs.Tests.{tests}
 use Rattle.table.specs.Reading.{term_at}
 use Rattle.table.proofs.Passing.{good_passed}
@@ -25,8 +25,7 @@ use Rattle.editing.proofs.Alike.{edited_unique}
 use Rattle.step.proofs.Goals.{goal_unique}
 use Rattle.entry.specs.Mark.{table_run}
 use Rattle.entry.proofs.Answers.{table_ok}
-use Rattle.filling.specs.declared.answer.Filled.{Filled}
-use Rattle.filling.specs.Fill.{Lent, all_long, counts_from, RunAs, EditedAs, Goal, GoalAs, FillingAs, OldAs, RoomsAs, Fills}
+use Rattle.filling.specs.Fill.{Lent, all_long, Filled, counts_from, RunAs, EditedAs, Goal, GoalAs, FillingAs, OldAs, RoomsAs, Fills}
 use Rattle.starred.specs.Bytes.{case_1, case_13, case_13_unit, by_h, by_unit}
 use Rattle.starred.specs.Tables.{h, read}
 use Rattle.starred.specs.Fillings.{hole, with_hole, one_serial, Edits, FillPrints, FilledBy, NoGoal}
@@ -57,13 +56,13 @@ bytes (b ∷ bs) t zero = leb→le (suc b) 256 (both (ltb b 256) (all_bytes bs) 
 bytes (b ∷ bs) t (suc i) = bytes bs (both (ltb b 256) (all_bytes bs) t).1 i
 
 -- A FILLING whose goal and edited table are known: the answer is that of the filling's run
-known_edit : (l f : List ℕ) (k : ℕ) (a : Answer) (st : St) (g : Gap) (e : List ℕ) → table_run l ≡ ok a st → tests Filling f ≡ Passes → ltb k (holes a.tree) ≡ true
-    → (p : At g a.tree) → length (before p) ≡ k → Bytes e → Edited l f g.term e → edited_tests e ≡ Passes
+known_edit : (l f : List ℕ) (k : ℕ) (a : Answer) (st : St) (g : Gap) (e : List ℕ) → table_run l ≡ ok a st → tests Filling f ≡ Ok tt → ltb k (holes a.tree) ≡ true
+    → (p : At g a.tree) → length (before p) ≡ k → Bytes e → Edited l f g.term e → edited_tests e ≡ Ok tt
     → (S S' : Lent) (r : Filled) → all_long S ≡ true → Fills S S' l f k r → RunAs S S' e g r (at_goal (term_at e g.term) g)
 known_edit l f k a st g e run fills few p number bytes edited passes S S' r long x =
     let x₀ : RoomsAs S S' l f k r true = subst (RoomsAs S S' l f k r) long x in
     let x₁ : OldAs S S' l f k r (ok a st) = subst (OldAs S S' l f k r) run x₀ in
-    let x₂ : FillingAs S S' l f k a r Passes = subst (FillingAs S S' l f k a r) fills x₁ in
+    let x₂ : FillingAs S S' l f k a r (Ok tt) = subst (FillingAs S S' l f k a r) fills x₁ in
     let z : Goal S S' l f k a r = subst (GoalAs S S' l f k a r) few x₂ in
     let y = table_ok l a st run in
     let here = goal_fillable l f y.0 fills a st y.1 g p in

@@ -16,8 +16,7 @@ use Rattle.step.specs.declared.node.Goal as declared
 use Rattle.step.specs.Rooms.{Rooms}
 use Rattle.step.specs.Trees.{second_serial, TreesAre}
 use Rattle.entry.specs.declared.Counts.{Counts}
-use Rattle.entry.specs.declared.Mark.{Mark as Answered}
-use Rattle.entry.specs.Mark.{table_run, outcome, counts_of, MarkedAs}
+use Rattle.entry.specs.Mark.{Mark as Answered, table_run, outcome, counts_of, MarkedAs}
 use Rattle.starred.specs.Printed.{LinesAre, GoalsAre, Yes, Prints, MarkedBy}
 
 same_width : (ts : Trees) → tree.width ts ≡ width ts

@@ -1,6 +1,6 @@
 -- An answer and the rooms it leaves, held to a mark of `rules`, which is what the program prints.
 -- Assumes nothing.
-use Rattle.std.specs.Prelude.{◌≡◌, true, List, [], ◌∷◌, ℕ, ◌+◌, length}
+use Rattle.std.specs.Prelude.{◌≡◌, true, List, [], ◌∷◌, ℕ, ◌+◌, length, Ok, Err}
 use Rattle.numbers.specs.declared.record.Record.{Record}
 use Rattle.numbers.specs.Records.{record_at}
 use Rattle.numbers.specs.Refusals.{refusal_at}
@@ -9,9 +9,7 @@ use Rattle.step.specs.declared.node.Goal as declared
 use Rattle.step.specs.Rooms.{Rooms}
 use Rattle.step.specs.Trees.{first_serial, second_serial, goal_at}
 use Rattle.entry.specs.declared.Counts.{Counts}
-use Rattle.entry.specs.declared.Mark.{Mark as Answered}
-use Rattle.entry.specs.declared.Mark.TheVariants as answered
-use Rattle.entry.specs.Mark.{long_enough, Marks}
+use Rattle.entry.specs.Mark.{Mark as Answered, long_enough, Marks}
 
 -- a tree record and its line; a goal record and its line
 abbrev pub LineIs : Record → Line → Type 0
@@ -38,9 +36,9 @@ pub record Yes (R : Rooms) (ls : List Line) (gs : List Goal) (c : Counts) : Type
   pub goal_lines : GoalsAre R.goals 0 gs
 
 abbrev pub Prints : Rooms → Mark → Answered → Type 0
-Prints R (no n p) a = a ≡ answered.Refused (refusal_at n p)
-Prints R (yes ls gs) (answered.Accepted c) = Yes R ls gs c
-Prints R (yes ls gs) (answered.Refused e) = ⊥
+Prints R (no n p) a = a ≡ Err (refusal_at n p)
+Prints R (yes ls gs) (Ok c) = Yes R ls gs c
+Prints R (yes ls gs) (Err e) = ⊥
 
 -- A TABLE l IS MARKED m by every call, whatever its rooms held
 abbrev pub MarkedBy : List ℕ → Mark → Type 0

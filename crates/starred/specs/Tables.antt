@@ -1,6 +1,7 @@
 -- Document 01, "Scripts every build marks" and "Marking errors to shut out", as files: what their bytes read as, and their mark. The rows say what those
 -- of `Cases` say, with names that no predicate has. Assumes nothing.
-use Rattle.std.specs.Prelude.{◌≡◌, List, [], ◌∷◌, map, ℕ}
+use Rattle.std.specs.Prelude.{◌≡◌, List, [], ◌∷◌, map, ℕ, Result, ⊤, Ok}
+use Rattle.numbers.specs.declared.refusal.Refusal.{Refusal}
 use Rattle.std.proofs.Math.Option.{none, some}
 use Rattle.rules.specs.Prop.{free, bound, made, Prop, atom, prop, datatype, each_param, each, named_not, closed}
 use Rattle.rules.specs.Term.{Term, sorry}
@@ -12,8 +13,6 @@ use Rattle.layout.specs.Form.{prop_shape, prop_form, term_shape, term_form}
 use Rattle.table.specs.Links.{prop_children, term_children, annotation_links, all_links, hits, sum, badly_linked_prop, badly_linked_term}
 use Rattle.table.specs.Size.{height, too_high, holder, below, depth_within, depth, too_deep}
 use Rattle.table.specs.declared.Purpose.TheVariants.{Check}
-use Rattle.table.specs.declared.Verdict.{Verdict}
-use Rattle.table.specs.declared.Verdict.TheVariants.{Passes}
 use Rattle.table.specs.Tests.{header, counts, or_term, formless, badly_linked, oversized, open_goal, unless, accused, from_goal, from_sizes}
 use Rattle.table.specs.Tests.{from_links, from_expected, from_forms, from_counts, tests}
 use Rattle.table.specs.Reading.{first_from, parent, object, above, binders_within, binders, settled, prop_of, prop_within, prop_at, type_of, ascribed}
@@ -25,7 +24,7 @@ use Rattle.starred.specs.Bytes.{left_kept, left_counted, abort_first, abort_last
 
 -- WHAT A FILE SAYS: its tests' verdict, its script, and the mark. To unfold this is to unfold all of the tests, the reading and the rules
 pub record Says : Type 0 where
-  pub verdict : Verdict
+  pub verdict : Result ⊤ Refusal
   pub term : Term
   pub wanted : Prop
   pub mark : Mark
@@ -45,7 +44,7 @@ pub record Row : Type 0 where
   pub says : Says
 
 abbrev pub row : List ℕ → Term → ℕ → Prop → Mark → Row
-row l t i A m = record { bytes = l; says = record { verdict = Passes; term = t; wanted = from i A; mark = m } }
+row l t i A m = record { bytes = l; says = record { verdict = Ok tt; term = t; wanted = from i A; mark = m } }
 
 -- every file of the table says so
 abbrev pub Read : List Row → Type 0

@@ -4,6 +4,8 @@ use mathlib.Core.List.{List, []}
 use mathlib.Core.Option.{some}
 use Prim.Native.Nat.{ℕ, zero, suc, ◌<◌, ◌≤◌}
 use native.Mathlib.Omega.{arith}
+use Rattle.std.specs.Prelude.{Option, Some, None}
+use Rattle.numbers.specs.declared.Sort.{Sort}
 use Rattle.layout.specs.declared.record.TermRecord.{TermRecord}
 use Rattle.layout.specs.File.{props, terms, term_record, kinds, kind_of}
 use Rattle.layout.specs.Form.{term_shape}
@@ -13,8 +15,6 @@ use Rattle.table.specs.Reading.{type_of, annotated}
 use Rattle.table.proofs.Sums.{hit_here}
 use Rattle.table.proofs.Links.{annotation_in}
 use Rattle.table.proofs.Reading.{tag_range}
-use Rattle.step.specs.declared.typing.Annotation.{Annotation}
-use Rattle.step.specs.declared.typing.Annotation.TheVariants as annotation
 use Rattle.step.specs.Rooms.{Table, Loaded}
 use Rattle.step.specs.Steps.{annotation_of, AnnotationIn, saying}
 
@@ -31,9 +31,9 @@ module _ {l ps : List ℕ} {c : ℕ} (loaded : Loaded l ps c) where
   in_at (suc zero) m h = omega (arith, loaded.first, h refl)
   in_at (suc (suc t)) m h = tt
 
-is_missing : Annotation → Type 0
-is_missing (annotation.Of T) = ⊥
-is_missing annotation.Missing = Unit {0}
+is_missing : Option Sort → Type 0
+is_missing (Some T) = ⊥
+is_missing None = Unit {0}
 
 given_at : (tag m : ℕ) → 1 ≤ tag → is_missing (annotation_of tag m) → ⊥
 unfolding is_missing
@@ -42,7 +42,7 @@ given_at (suc zero) m h x = x
 given_at (suc (suc t)) m h x = x
 
 -- OF TERM k, whose record is r
-module _ {l : List ℕ} (table : Table l) {k : ℕ} (h : k < terms l) (r : TermRecord) (er : r ≡ term_record l k) (ann : Annotation) (ea : ann ≡ annotation_of r.tag r.typ) where
+module _ {l : List ℕ} (table : Table l) {k : ℕ} (h : k < terms l) (r : TermRecord) (er : r ≡ term_record l k) (ann : Option Sort) (ea : ann ≡ annotation_of r.tag r.typ) where
   known : r.tag ≡ 1 → r.typ < props l
   unfolding annotation_links
   known = subst⁻¹ (λ (r : TermRecord). r.tag ≡ 1 → r.typ < props l) er at
@@ -61,7 +61,7 @@ module _ {l : List ℕ} (table : Table l) {k : ℕ} (h : k < terms l) (r : TermR
     annotation_among = subst⁻¹ (AnnotationIn c) ea (in_at loaded r.tag r.typ known)
 
   -- an ascription has one
-  pub annotation_given : (term_record l k).kind ≡ 12 → ann ≡ annotation.Missing → ⊥
+  pub annotation_given : (term_record l k).kind ≡ 12 → ann ≡ None → ⊥
   unfolding is_missing kind_of kinds term_shape
   annotation_given kind e = given_at r.tag r.typ some_tag (subst is_missing (sym e ∙ ea) tt)
     where

@@ -13,10 +13,7 @@ use Rattle.step.specs.Rooms.{Rooms, count_of, Base}
 use Rattle.step.specs.Contract.{Ready}
 use Rattle.step.proofs.Doing.{nodes_some}
 
--- the table has a header, and the room has so many propositions
-pub base_header : {l : List ℕ} {R : Rooms} {st : State} → Base l R st → 16 ≤ length l
-base_header b = omega (arith, b.table.counted.long)
-
+-- the room has no more propositions than may be
 pub base_count : {l : List ℕ} {R : Rooms} {st : State} → Base l R st → count_of l st ≤ most_records
 base_count b = omega (arith, b.table.counted.propositions, b.made)
 
@@ -24,10 +21,7 @@ base_count b = omega (arith, b.table.counted.propositions, b.made)
 pub ready_inner : {l : List ℕ} {R : Rooms} {k : ℕ} {st : State} → Ready l R k st → (s : State) → s.records ≡ st.records → s.records < largest
 ready_inner {l} {k = k} rd s e = omega (arith, rd.records, nodes_some (term_at l k))
 
--- the entries are in the room
-pub ready_work : {l : List ℕ} {R : Rooms} {k : ℕ} {st : State} → Ready l R k st → 8 * st.context ≤ length R.work
-ready_work rd = omega (arith, rd.context, rd.base.table.counted.few, rd.base.work_room)
-
+-- the context has no more entries than may be
 pub ready_context : {l : List ℕ} {R : Rooms} {k : ℕ} {st : State} → Ready l R k st → st.context ≤ most_entries
 ready_context rd = omega (arith, rd.context, rd.base.table.counted.few)
 

@@ -5,6 +5,7 @@ use mathlib.Core.List.{List, [], ◌∷◌}
 use Prim.Native.Nat.{ℕ, ◌+◌, ◌*◌, ◌<◌, ◌≤◌}
 use native.Mathlib.Omega.{arith}
 use lib.ListN.{length}
+use Rattle.std.specs.Prelude.{Ok, Err}
 use Rattle.numbers.specs.declared.Sort.{Sort}
 use Rattle.numbers.specs.declared.record.Record.{Record}
 use Rattle.numbers.specs.declared.refusal.Refusal.{Refusal}
@@ -22,7 +23,6 @@ use Rattle.rules.proofs.Spent.{records_beside, holes_beside, width_beside, Spent
 use Rattle.table.specs.Reading.{term_at}
 use Rattle.step.specs.declared.state.State.{State}
 use Rattle.step.specs.declared.state.Want.{Want}
-use Rattle.step.specs.declared.state.Ran.TheVariants as ran
 use Rattle.step.specs.Rooms.{Rooms, rooms, ctx_of, st_of, count_of, inner, leaving, Stands, Entries, Base}
 use Rattle.step.specs.Modes.{mode}
 use Rattle.step.specs.Trees.{node_rec, first_serial, second_serial, TreesAre}
@@ -170,7 +170,7 @@ module _ {l : List ℕ} {R₀ : Rooms} {k : ℕ} {w : Mode} {st₀ : State} {R :
   asked = (λ i. run (term_at l m) (e i) (eΓ i) (st_of st)) ∙ sym (ap (run_of l R m (mode l R.props v)) es)
 
   -- what it answers is the type that the rule goes on with
-  pub doing_went : {T : Sort} {s₁ : State} → RanAs l R R₁ m v s (ran.Has T s₁)
+  pub doing_went : {T : Sort} {s₁ : State} → RanAs l R R₁ m v s (Ok (record { typ = T; state = s₁ }))
       → (A : Ty) × Stands l R₁.props (count_of l s₁) T A × Doing l R₀ k w st₀ R₁ (leaving s₁ st.context) (q A) ks (used + nodes (term_at l m)) own (wide + 1)
   doing_went {s₁ = s₁} ans =
       let acc = ans.accepted in
@@ -193,7 +193,7 @@ module _ {l : List ℕ} {R₀ : Rooms} {k : ℕ} {w : Mode} {st₀ : State} {R :
       )
 
   -- its refusal is the rule's
-  pub doing_refused : (r : Refusal) → RanAs l R R₁ m v s (ran.Refused r) → Refuses (run_of l R₀ k w st₀) r
+  pub doing_refused : (r : Refusal) → RanAs l R R₁ m v s (Err r) → Refuses (run_of l R₀ k w st₀) r
   doing_refused r h = doing_stop (refusal_of r) d (ask_refused w' Γ' q (kid_at l m, ks) (st_of st) (refusal_of r) (asked ∙ h))
 
 -- THE NODE, put in the record that was kept for it

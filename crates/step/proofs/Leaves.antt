@@ -1,83 +1,41 @@
--- Laws of the counts, of the tree's records and of the goals; and the loop of `shift`. Assumes nothing.
-use mathlib.Core.Path.{◌≡◌, refl, ap, sym, ◌∙◌}
+-- Laws of the counts, of the tree's records and of the goals; and what `shift` does. Assumes nothing.
+use mathlib.Core.Path.{◌≡◌, refl, ap, ap₂, sym, ◌∙◌}
 use mathlib.Core.List.{List, [], ◌∷◌}
-use mathlib.Core.Logic.{◌⊎◌, inl, inr}
 use Prim.Native.Nat.{ℕ, ◌+◌, ◌-◌, ◌*◌, ◌<◌, ◌≤◌}
 use native.Mathlib.Omega.{arith}
-use native.Mathlib.Nat.{eq-or-lt_of_le}
 use lib.ListN.{length, get_or, length-set}
-use Rattle.numbers.specs.declared.Name.{Name}
+use Rattle.std.specs.List.{CopiedTo, SameBelow}
+use Rattle.numbers.specs.declared.Term.{Term}
 use Rattle.numbers.specs.declared.Proposition.{Proposition as Number}
 use Rattle.numbers.specs.declared.Sort.{Sort}
 use Rattle.numbers.specs.declared.Sort.TheVariants.{Proposition, Datatype}
-use Rattle.numbers.specs.declared.record.Record.{Record}
-use Rattle.numbers.specs.Records.{word_at, put_word, record_at, Put}
+use Rattle.numbers.specs.Records.{word_at, put_word, record_at}
 use Rattle.numbers.proofs.Records.{word_far, word_same}
-use Rattle.context.specs.Context.{sort_of}
 use Rattle.layout.specs.declared.record.TermRecord.{TermRecord}
 use Rattle.layout.specs.File.{props, as_term, term_record}
 use Rattle.step.specs.declared.node.Goal.{Goal}
-use Rattle.step.specs.declared.state.State.{State}
-use Rattle.step.specs.Rooms.{numbered}
 use Rattle.step.specs.Shift.{Shifted}
-use Rattle.step.specs.Trees.{node_rec, as_node, node_at, goal_at, goal_rec, PutGoal}
+use Rattle.step.specs.Trees.{node_rec, as_node, goal_at, PutGoal}
 
 -- A TERM'S RECORD, behind the table's propositions
 pub term_is : (l : List ℕ) (p k : ℕ) (r : TermRecord) → p ≡ props l → r ≡ as_term (record_at l (p + k + 1)) → r ≡ term_record l k
 term_is l p k r e h = h ∙ ap (λ (p : ℕ). as_term (record_at l (p + k + 1))) e
 
--- ONE SERIAL MORE
-pub numbered_is : (st : State) (n : ℕ) → n ≡ st.serials + 1 → record { records = st.records; goals = st.goals; serials = n; made = st.made; context = st.context; asked = st.asked } ≡ numbered st
-numbered_is st n h i = record { records = st.records; goals = st.goals; serials = h i; made = st.made; context = st.context; asked = st.asked }
-
 -- RECORDS of the tree and of the goals
-pub node_prop : (rule k i j n : ℕ) (T : Sort) (p : Number) → T ≡ Proposition p → record { kind = rule; count = 0; a = k; b = p.0; c = i; parameters = j ∷ n ∷ 0 ∷ 0 ∷ [] } ≡ node_rec rule k T i j n
-node_prop rule k i j n T p e = ap (λ (T : Sort). node_rec rule k T i j n) (sym e)
-
-pub node_data : (rule k i j n : ℕ) (T : Sort) (d : Name) → T ≡ Datatype d → record { kind = rule; count = 1; a = k; b = d.0; c = i; parameters = j ∷ n ∷ 0 ∷ 0 ∷ [] } ≡ node_rec rule k T i j n
-node_data rule k i j n T d e = ap (λ (T : Sort). node_rec rule k T i j n) (sym e)
-
--- `node_at` reads what the bytes say, and reads back what `node` said
-pub node_is : (w : List ℕ) (n : ℕ) (r : Record) (T : Sort) → r ≡ record_at w n → T ≡ sort_of r.count r.b
-    → record {
-      rule = r.kind;
-      term = record { 0 = r.a };
-      conclusion = T;
-      first = record { 0 = r.c };
-      second = record { 0 = get_or r.parameters 0 0 };
-      premises = get_or r.parameters 1 0;
-    }
-    ≡ node_at w n
-node_is w n r T er e =
-    (λ i. record {
-      rule = r.kind;
-      term = record { 0 = r.a };
-      conclusion = e i;
-      first = record { 0 = r.c };
-      second = record { 0 = get_or r.parameters 0 0 };
-      premises = get_or r.parameters 1 0;
-    })
-    ∙ ap as_node er
-
+-- `node_at` reads back what `node` said
 pub node_back : (rule k i j n : ℕ) (T : Sort)
     → as_node (node_rec rule k T i j n) ≡ record { rule = rule; term = record { 0 = k }; conclusion = T; first = record { 0 = i }; second = record { 0 = j }; premises = n }
 node_back rule k i j n (Proposition p) = refl
 node_back rule k i j n (Datatype d) = refl
-
-pub goal_prop : (k n : ℕ) (T : Sort) (p : Number) → T ≡ Proposition p → record { term = record { 0 = k }; proposition = p; context = n; zero = 0 } ≡ goal_rec k T n
-goal_prop k n T p e = ap (λ (T : Sort). goal_rec k T n) (sym e)
-
-pub goal_data : (k n : ℕ) (T : Sort) (d : Name) → T ≡ Datatype d → record { term = record { 0 = k }; proposition = record { 0 = d.0 }; context = n; zero = 0 } ≡ goal_rec k T n
-goal_data k n T d e = ap (λ (T : Sort). goal_rec k T n) (sym e)
 
 -- a goal is what its four words say
 goal_words : (w : List ℕ) (n : ℕ) (g : Goal) → word_at w (8 * n) ≡ g.term.0 → word_at w (8 * n + 2) ≡ g.proposition.0 → word_at w (8 * n + 4) ≡ g.context → word_at w (8 * n + 6) ≡ g.zero → goal_at w n ≡ g
 unfolding goal_at
 goal_words w n g t p c z i = record { term = record { 0 = t i }; proposition = record { 0 = p i }; context = c i; zero = z i }
 
-pub goal_is : (w : List ℕ) (n t p c z : ℕ) → t ≡ word_at w (8 * n) → p ≡ word_at w (8 * n + 2) → c ≡ word_at w (8 * n + 4) → z ≡ word_at w (8 * n + 6)
-    → record { term = record { 0 = t }; proposition = record { 0 = p }; context = c; zero = z } ≡ goal_at w n
-goal_is w n t p c z et ep ec ez = sym (goal_words w n _ (sym et) (sym ep) (sym ec) (sym ez))
+pub goal_is : (w : List ℕ) (n m c z : ℕ) (t : Term) (p : Number) → m ≡ n → t.0 ≡ word_at w (8 * m) → p.0 ≡ word_at w (8 * m + 2) → c ≡ word_at w (8 * m + 4) → z ≡ word_at w (8 * m + 6)
+    → record { term = t; proposition = p; context = c; zero = z } ≡ goal_at w n
+goal_is w n m c z t p e et ep ec ez = sym (goal_words w m _ (sym et) (sym ep) (sym ec) (sym ez)) ∙ ap (goal_at w) e
 
 -- the room after the four stores of `put_goal`, store by store
 abbrev stored₁ : List ℕ → ℕ → Goal → List ℕ
@@ -137,47 +95,31 @@ module _ (w : List ℕ) (n : ℕ) (g : Goal) where
   put_is h = record { here = goal_here h; size = simp length-set; others = other_goal }
 
 -- the same with a name for the room after each store, as `put_goal` has them
-pub goal_put : (w w₁ w₂ w₃ w₄ : List ℕ) (n : ℕ) (g : Goal) → 8 * n + 8 ≤ length w → w₁ ≡ put_word w (8 * n) g.term.0 → w₂ ≡ put_word w₁ (8 * n + 2) g.proposition.0 → w₃ ≡ put_word w₂ (8 * n + 4) g.context → w₄ ≡ put_word w₃ (8 * n + 6) g.zero → PutGoal w n g w₄
-goal_put w w₁ w₂ w₃ w₄ n g h q₁ q₂ q₃ q₄ = let q : w₄ ≡ put_goal w n g = cc in rw q (put_is w n g h)
+pub goal_put : (w w₁ w₂ w₃ w₄ : List ℕ) (n m : ℕ) (g : Goal) → m ≡ n → 8 * n + 8 ≤ length w → w₁ ≡ put_word w (8 * m) g.term.0 → w₂ ≡ put_word w₁ (8 * m + 2) g.proposition.0 → w₃ ≡ put_word w₂ (8 * m + 4) g.context → w₄ ≡ put_word w₃ (8 * m + 6) g.zero → PutGoal w n g w₄
+goal_put w w₁ w₂ w₃ w₄ n m g e h q₁ q₂ q₃ q₄ = let q : w₄ ≡ put_goal w m g = cc in rw (q, e) (put_is w n g h)
 
--- THE LOOP OF `shift`: the records from i up have moved, the last first
-pub record Moving (old : List ℕ) (low high i : ℕ) (new : List ℕ) : Type 0 where
-  pub size : length new ≡ length old
-  pub least : low ≤ i
-  pub most : i ≤ high
-  pub room : 16 * high + 16 ≤ length new
-  pub kept : (m : ℕ) → m ≤ i → record_at new m ≡ record_at old m
-  pub moved : (m : ℕ) → i ≤ m → m < high → record_at new (m + 1) ≡ record_at old m
+-- A RECORD is what its sixteen bytes say, wherever they stand
+record_moved : (old new : List ℕ) (m n : ℕ) → ((i j : ℕ) → 16 * n ≤ i → i < 16 * n + 16 → i + 16 * m ≡ j + 16 * n → get_or new i 0 ≡ get_or old j 0) → record_at new n ≡ record_at old m
+unfolding record_at
+record_moved old new m n h =
+    let w : (k : ℕ) → k < 15 → word_at new (16 * n + k) ≡ word_at old (16 * m + k) =
+    λ k l. ap₂ (λ (a b : ℕ). a + 256 * b) (h (16 * n + k) (16 * m + k) (omega arith) (omega arith) (omega arith)) (h (16 * n + k + 1) (16 * m + k + 1) (omega arith) (omega arith) (omega arith)) in
+    let kind = h (16 * n) (16 * m) (omega arith) (omega arith) (omega arith) in
+    let count = h (16 * n + 1) (16 * m + 1) (omega arith) (omega arith) (omega arith) in
+    let a = w 2 (omega arith) in
+    let b = w 4 (omega arith) in
+    let c = w 6 (omega arith) in
+    let p = w 8 (omega arith) in
+    let q = w 10 (omega arith) in
+    let r = w 12 (omega arith) in
+    let s = w 14 (omega arith) in
+    λ i. record { kind = kind i; count = count i; a = a i; b = b i; c = c i; parameters = p i ∷ q i ∷ r i ∷ s i ∷ [] }
 
-pub moving_none : (t : List ℕ) (low high : ℕ) → low ≤ high → 16 * high + 16 ≤ length t → Moving t low high high t
-moving_none t low high h r =
-    record { size = refl; least = h; most = omega arith; room = r; kept = λ m l. refl; moved = λ m l k. absurd (omega arith) }
-
-module _ (old : List ℕ) (low high i : ℕ) (t : List ℕ) (s : Moving old low high i t) where
-  pub moving_read : low < i → 16 * (i - 1) + 16 ≤ length t
-  moving_read h = omega (arith, s.most, s.room)
-
-  pub moving_write : low < i → 16 * i + 16 ≤ length t
-  moving_write h = omega (arith, s.most, s.room)
-
-  pub moving_more : (u : List ℕ) (r : Record) → low < i → r ≡ record_at t (i - 1) → Put t i r u → Moving old low high (i - 1) u
-  moving_more u r l er put =
-      record {
-        size = put.size ∙ s.size;
-        least = omega arith;
-        most = omega (arith, s.most);
-        room = omega (arith, s.room, put.size);
-        kept = λ m h. put.others m (omega arith) ∙ s.kept m (omega arith);
-        moved = λ m h k. go m k (eq-or-lt_of_le h);
-      }
-    where
-      next : (m : ℕ) → i - 1 ≡ m → m + 1 ≡ i
-      next m e = omega arith
-
-      go : (m : ℕ) → m < high → (i - 1 ≡ m) ⊎ (i - 1 < m) → record_at u (m + 1) ≡ record_at old m
-      go m k (inl e) = ap (record_at u) (next m e) ∙ put.here ∙ er ∙ s.kept (i - 1) (omega arith) ∙ ap (record_at old) e
-      go m k (inr h) = put.others (m + 1) (omega arith) ∙ s.moved m (omega arith) k
-
-  pub moving_done : i ≤ low → Shifted low high old t
-  moving_done h =
-      record { size = s.size; moved = λ m l k. s.moved m (omega (arith, s.least)) k; below = λ m l. s.kept m (omega (arith, s.least)) }
+-- what `copy_within` does is a shift, if it is from record `low` on to the next
+pub shifted : (old new : List ℕ) (low high a b : ℕ) → a ≡ low → b ≡ high → low ≤ high → length new ≡ length old → CopiedTo old new (16 * a) (16 * a + 16) (16 * b - 16 * a) → SameBelow old new (16 * a + 16) → Shifted low high old new
+shifted old new low high a b ea eb h size copied same =
+    record {
+      size = size;
+      moved = λ m l k. record_moved old new m (m + 1) (λ i j lo hi e. copied i 0 (omega arith) (omega arith) ∙ ap (λ (j : ℕ). get_or old j 0) (omega arith));
+      below = λ m l. record_moved old new m m (λ i j lo hi e. same i 0 (omega arith) ∙ ap (λ (j : ℕ). get_or old j 0) (omega arith));
+    }

@@ -8,6 +8,7 @@ use Prim.Native.Nat.{ℕ, ◌+◌, ◌<◌, ◌≤◌}
 use native.Mathlib.Nat.{eq-or-lt_of_le}
 use native.Mathlib.Omega.{arith}
 use borrow.Author.Tests.{le-leb, lt-leb}
+use Rattle.std.specs.Prelude.{Option, Some, None}
 use Rattle.numbers.specs.declared.Proposition.{Proposition}
 use Rattle.numbers.specs.declared.Sort.{Sort}
 use Rattle.numbers.specs.declared.Sort.TheVariants as sort
@@ -18,11 +19,10 @@ use Rattle.rules.specs.Prop.{Prop, Ty, prop, put, size}
 use Rattle.rules.specs.State.{St, limit, spend, room}
 use Rattle.rules.specs.Tree.{Trees, end, records, holes}
 use Rattle.rules.specs.Step.{refused, Arity, Prog, make, Kids, obey}
-use Rattle.arena.specs.declared.make.Made.{Made}
-use Rattle.arena.specs.declared.make.Made.TheVariants.{At, Full}
+use Rattle.arena.specs.declared.copy.Copied.{Copied}
 use Rattle.prop.specs.Room.{room_at, TypeIn, Arena}
 use Rattle.table.specs.Passing.{Counted}
-use Rattle.arena.specs.Copy.{Makes, most_records}
+use Rattle.arena.specs.Copy.{Makes}
 use Rattle.arena.specs.Make.{MadeIs, PutIs}
 use Rattle.prop.proofs.Rooms.{type_same, type_more}
 use Rattle.context.specs.declared.identifier_context.Entry.{Entry}
@@ -143,31 +143,25 @@ pub record MadeFor (l old new : List ℕ) (st st' : State) (k : ℕ) (P : Prop) 
 pub made_goes : {l old new : List ℕ} {st st' : State} {k : ℕ} {P : Prop} {m : Proposition} → MadeFor l old new st st' k P m → {n : Arity} (p : ℕ) (q : Prog n) (ks : Kids n) → obey (make k p q) ks (st_of st) ≡ obey q ks (st_of st')
 made_goes {st = st} {k = k} d p q ks = make_goes k p q ks (st_of st) d.allowed ∙ ap (obey q ks) (sym d.spent)
 
--- WHAT THOSE FUNCTIONS ASK, for the count and the rest that the code has computed
+-- WHAT THOSE FUNCTIONS ASK, for the count that the code has computed
 pub loaded_arena : (l ps : List ℕ) (st : State) (c : ℕ) → c ≡ count_of l st → Loaded l ps (count_of l st) → Arena ps c
 loaded_arena l ps st c e h = subst⁻¹ (Arena ps) e h.arena
-
-pub loaded_type : (l : List ℕ) (st : State) (c : ℕ) (T : Sort) → c ≡ count_of l st → TypeIn (count_of l st) T → TypeIn c T
-loaded_type l st c T e h = subst⁻¹ (λ (c : ℕ). TypeIn c T) e h
-
-pub loaded_left : (l : List ℕ) (st : State) (c left : ℕ) → c ≡ count_of l st → left + st.made ≡ limit → Counted l → c + left ≤ most_records
-loaded_left l st c left e f h = omega (arith, h.propositions)
 
 -- what `grown` says of the counts once there are e propositions where there were c
 abbrev pub GrownTo : (st : State) (c e : ℕ) → State → Type 0
 GrownTo st c e s = (s.made + c ≡ st.made + e) × (s.records ≡ st.records) × (s.goals ≡ st.goals) × (s.serials ≡ st.serials) × (s.context ≡ st.context) × (s.asked ≡ st.asked)
 
 -- AN ANSWER of `prop`'s functions that make
-module _ (l old new : List ℕ) (c left : ℕ) (st : State) (k : ℕ → ℕ) (P : ℕ → Prop) (o : Made) (ec : c ≡ count_of l st) (el : left + st.made ≡ limit) (is : MadeIs old c left k P new o) where
+module _ (l old new : List ℕ) (c left : ℕ) (st : State) (k : ℕ → ℕ) (P : ℕ → Prop) (o : Option Copied) (ec : c ≡ count_of l st) (el : left + st.made ≡ limit) (is : MadeIs old c left k P new o) where
   -- it was made, and `grown` gave the counts
-  pub made_for : (s : State) (m : Proposition) (e : ℕ) → o ≡ At m e → GrownTo st c e s → MadeFor l old new st s (k (props l)) (P (props l)) m
-  made_for s m e q g =
+  pub made_for : (s : State) (x : Copied) → o ≡ Some x → GrownTo st c x.count s → MadeFor l old new st s (k (props l)) (P (props l)) x.at
+  made_for s x q g =
       let few : k (props l) ≤ left = (subst (MadeIs old c left k P new) q is).0 (props l) in
-      let makes : Makes old c k P new m.0 e = (subst (MadeIs old c left k P new) q is).1 in
-      let count : e ≡ c + k (props l) = makes.count (props l) in
-      let made : s.made + c ≡ st.made + e = g.0 in
+      let makes : Makes old c k P new x.at.0 x.count = (subst (MadeIs old c left k P new) q is).1 in
+      let count : x.count ≡ c + k (props l) = makes.count (props l) in
+      let made : s.made + c ≡ st.made + x.count = g.0 in
       let more : s.made ≡ st.made + k (props l) = omega arith in
-      let ends : e ≡ count_of l s = omega arith in
+      let ends : x.count ≡ count_of l s = omega arith in
       record {
         making =
             record {
@@ -178,47 +172,47 @@ module _ (l old new : List ℕ) (c left : ℕ) (st : State) (k : ℕ → ℕ) (P
               same = subst (λ (c : ℕ). Same c old new) ec makes.same;
               long = makes.long;
             };
-        stands = record { among = subst (λ (e : ℕ). m.0 < e) ends makes.below; means = ap prop (makes.means (props l) (omega arith)) };
+        stands = record { among = subst (λ (e : ℕ). x.at.0 < e) ends makes.below; means = ap prop (makes.means (props l) (omega arith)) };
         allowed = le-leb (st.made + k (props l)) limit (omega arith);
         spent = λ i. record { serials = g.3 i; made = more i };
       }
 
   -- what `grown` asks
-  pub made_more : (m : Proposition) (e : ℕ) → o ≡ At m e → c ≤ e
-  made_more m e q = let count : e ≡ c + k (props l) = (subst (MadeIs old c left k P new) q is).1.count (props l) in omega arith
+  pub made_more : (x : Copied) → o ≡ Some x → c ≤ x.count
+  made_more x q = let count : x.count ≡ c + k (props l) = (subst (MadeIs old c left k P new) q is).1.count (props l) in omega arith
 
-  pub made_few : (m : Proposition) (e : ℕ) → o ≡ At m e → Counted l → st.made + e ≤ largest
+  pub made_few : (x : Copied) → o ≡ Some x → Counted l → st.made + x.count ≤ largest
   unfolding limit
-  made_few m e q h =
+  made_few x q h =
       let few : k (props l) ≤ left = (subst (MadeIs old c left k P new) q is).0 (props l) in
-      let count : e ≡ c + k (props l) = (subst (MadeIs old c left k P new) q is).1.count (props l) in
+      let count : x.count ≡ c + k (props l) = (subst (MadeIs old c left k P new) q is).1.count (props l) in
       omega (arith, h.propositions)
 
   -- it would be too many
-  pub full_room : o ≡ Full → room (k (props l)) (st_of st) ≡ false
+  pub full_room : o ≡ None → room (k (props l)) (st_of st) ≡ false
   full_room q = let over : left < k (props l) = (subst (MadeIs old c left k P new) q is).1 (props l) in lt-leb (st.made + k (props l)) limit (omega arith)
 
-  pub full_stops : o ≡ Full → {n : Arity} (p : ℕ) (q : Prog n) (ks : Kids n) → obey (make (k (props l)) p q) ks (st_of st) ≡ refused 30 p
+  pub full_stops : o ≡ None → {n : Arity} (p : ℕ) (q : Prog n) (ks : Kids n) → obey (make (k (props l)) p q) ks (st_of st) ≡ refused 30 p
   full_stops f p q ks = make_stops (k (props l)) p q ks (st_of st) (full_room f)
 
 -- the same of `put_in`, in the form that `search` finds: the body n with the identifier i put in
-module _ (l ps ps' : List ℕ) (c left n i : ℕ) (st : State) (o : Made) (ec : c ≡ count_of l st) (el : left + st.made ≡ limit) (is : PutIs ps c left n i ps' o) where
+module _ (l ps ps' : List ℕ) (c left n i : ℕ) (st : State) (o : Option Copied) (ec : c ≡ count_of l st) (el : left + st.made ≡ limit) (is : PutIs ps c left n i ps' o) where
   abbrev count : ℕ → ℕ
   count t = size (room_at t ps n)
 
   abbrev whole : ℕ → Prop
   whole t = put i (room_at t ps n)
 
-  pub put_more : (m : Proposition) (e : ℕ) → o ≡ At m e → c ≤ e
-  put_more m e q = made_more l ps ps' c left st count whole o ec el is m e q
+  pub put_more : (x : Copied) → o ≡ Some x → c ≤ x.count
+  put_more x q = made_more l ps ps' c left st count whole o ec el is x q
 
-  pub put_few : (m : Proposition) (e : ℕ) → o ≡ At m e → Counted l → st.made + e ≤ largest
-  put_few m e q h = made_few l ps ps' c left st count whole o ec el is m e q h
+  pub put_few : (x : Copied) → o ≡ Some x → Counted l → st.made + x.count ≤ largest
+  put_few x q h = made_few l ps ps' c left st count whole o ec el is x q h
 
-  pub put_made : (s : State) (m : Proposition) (e : ℕ) → o ≡ At m e → GrownTo st c e s → MadeFor l ps ps' st s (size (room_at (props l) ps n)) (put i (room_at (props l) ps n)) m
-  put_made s m e q g = made_for l ps ps' c left st count whole o ec el is s m e q g
+  pub put_made : (s : State) (x : Copied) → o ≡ Some x → GrownTo st c x.count s → MadeFor l ps ps' st s (size (room_at (props l) ps n)) (put i (room_at (props l) ps n)) x.at
+  put_made s x q g = made_for l ps ps' c left st count whole o ec el is s x q g
 
-  pub put_stops : o ≡ Full → {a : Arity} (p : ℕ) (q : Prog a) (ks : Kids a) → obey (make (size (room_at (props l) ps n)) p q) ks (st_of st) ≡ refused 30 p
+  pub put_stops : o ≡ None → {a : Arity} (p : ℕ) (q : Prog a) (ks : Kids a) → obey (make (size (room_at (props l) ps n)) p q) ks (st_of st) ≡ refused 30 p
   put_stops f p q ks = full_stops l ps ps' c left st count whole o ec el is f p q ks
 
 -- A SERIAL TAKEN

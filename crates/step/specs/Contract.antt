@@ -1,5 +1,5 @@
 -- What `check` and `synthesize` ask and promise, by cases on the answer. Assumes nothing.
-use Rattle.std.specs.Prelude.{◌≡◌, List, ℕ, ◌+◌, ◌*◌, ◌<◌, ◌≤◌, length, Bool, ◌||◌, eqb}
+use Rattle.std.specs.Prelude.{◌≡◌, List, ℕ, ◌+◌, ◌*◌, ◌<◌, ◌≤◌, length, Bool, ◌||◌, eqb, Result, Ok, Err}
 use Rattle.numbers.specs.declared.Sort.{Sort}
 use Rattle.numbers.specs.declared.refusal.Refusal.{Refusal}
 use Rattle.numbers.specs.Records.{Same}
@@ -14,8 +14,7 @@ use Rattle.prop.specs.Room.{Arena}
 use Rattle.context.specs.Context.{SameEntries}
 use Rattle.step.specs.declared.state.State.{State}
 use Rattle.step.specs.declared.state.Want.{Want}
-use Rattle.step.specs.declared.state.Ran.{Ran}
-use Rattle.step.specs.declared.state.Ran.TheVariants as ran
+use Rattle.step.specs.declared.state.Answer.{Answer as Answered}
 use Rattle.step.specs.Rooms.{Rooms, Base, Stands, ctx_of, st_of, count_of, most_nodes, most_goals, serials_cap, entries_cap}
 use Rattle.step.specs.Modes.{mode}
 use Rattle.step.specs.Trees.{SameGoals, TreesAre}
@@ -79,9 +78,9 @@ abbrev pub Refuses : {X : Type 0} → Out X → Refusal → Type 0
 Refuses o r = o ≡ stop (refusal_of r)
 
 -- THE CONTRACT of check and of synthesize: term k, run as it is wanted from the rooms R and the counts st, has come to this
-abbrev pub RanAs : (l : List ℕ) → (R R' : Rooms) → ℕ → Want → State → Ran → Type 0
-RanAs l R R' k w st (ran.Has T st') = Answers l R R' st st' T (run_of l R k (mode l R.props w) st)
-RanAs l R R' k w st (ran.Refused r) = Refuses (run_of l R k (mode l R.props w) st) r
+abbrev pub RanAs : (l : List ℕ) → (R R' : Rooms) → ℕ → Want → State → Result Answered Refusal → Type 0
+RanAs l R R' k w st (Ok a) = Answers l R R' st a.state a.typ (run_of l R k (mode l R.props w) st)
+RanAs l R R' k w st (Err r) = Refuses (run_of l R k (mode l R.props w) st) r
 
 -- the kinds whose check is a comparison: Ident, projections, Application
 unfoldable pub synthesizes : ℕ → Bool

@@ -22,7 +22,10 @@ abbrev pub answer_of : Want → Sort → Sort
 answer_of want.Synth T = T
 answer_of (want.Check E) T = E
 
--- of two refusal numbers, the mode's
+-- of two reasons for a refusal, or their numbers, the mode's
+abbrev pub either : {X : Type 0} → Want → X → X → X
+either want.Synth a b = b
+either (want.Check E) a b = a
+
 abbrev pub number_of : Want → ℕ → ℕ → ℕ
-number_of want.Synth a b = b
-number_of (want.Check E) a b = a
+number_of w a b = either w a b

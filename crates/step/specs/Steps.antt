@@ -1,7 +1,8 @@
 -- Parts of the rules that do not recurse: what the functions for them promise. Each says how a rule's program goes on, or where it stops, for
 -- whatever comes after that part. Assumes nothing.
-use Rattle.std.specs.Prelude.{◌≡◌, List, [], ◌∷◌, ℕ, zero, suc, ◌+◌, ◌≤◌, length}
+use Rattle.std.specs.Prelude.{◌≡◌, List, [], ◌∷◌, ℕ, zero, suc, ◌+◌, ◌≤◌, length, Option as Optional, Some, None, Result, Ok, Err}
 use Rattle.std.proofs.Math.Option.{Option, none, some}
+use Rattle.numbers.specs.declared.Serial.{Serial}
 use Rattle.numbers.specs.declared.Sort.{Sort}
 use Rattle.numbers.specs.declared.Sort.TheVariants as sort
 use Rattle.numbers.specs.declared.refusal.Refusal.{Refusal}
@@ -18,24 +19,12 @@ use Rattle.prop.specs.Room.{room_at, TypeIn, Arena}
 use Rattle.context.specs.Context.{SameEntries}
 use Rattle.step.specs.declared.state.State.{State}
 use Rattle.step.specs.declared.state.Want.{Want}
-use Rattle.step.specs.declared.typing.Annotation.{Annotation}
-use Rattle.step.specs.declared.typing.Annotation.TheVariants as annotation
-use Rattle.step.specs.declared.typing.Resolving.{Resolving}
-use Rattle.step.specs.declared.typing.Resolving.TheVariants as resolving
-use Rattle.step.specs.declared.typing.Agreed.{Agreed}
-use Rattle.step.specs.declared.typing.Agreed.TheVariants as agreed
-use Rattle.step.specs.declared.open.Opened.{Opened}
-use Rattle.step.specs.declared.open.Opened.TheVariants as opened
-use Rattle.step.specs.declared.open.Object.{Object}
-use Rattle.step.specs.declared.open.Object.TheVariants as object
-use Rattle.step.specs.declared.open.Entered.{Entered}
-use Rattle.step.specs.declared.open.Entered.TheVariants as entered
-use Rattle.step.specs.declared.open.Closed.{Closed}
-use Rattle.step.specs.declared.open.Closed.TheVariants as closed
-use Rattle.step.specs.declared.open.Abstracted.{Abstracted}
-use Rattle.step.specs.declared.open.Abstracted.TheVariants as abstraction
+use Rattle.step.specs.declared.typing.Resolution.{Resolution}
+use Rattle.step.specs.declared.open.Opening.{Opening}
+use Rattle.step.specs.declared.open.Abstraction.{Abstraction}
 use Rattle.step.specs.Rooms.{st_of, count_of, making, reads, ctx_of, Stands, Entries}
 use Rattle.step.specs.Modes.{number_of}
+use Rattle.step.specs.Trees.{rule_number}
 use Rattle.step.specs.Picture.{SamePicture}
 use Rattle.step.specs.Contract.{Refuses}
 
@@ -63,15 +52,15 @@ pub record Making (l ps ps' : List ℕ) (st st' : State) : Type 0 where
   pub long : length ps' ≡ length ps
 
 -- THE ANNOTATION of a term's record: tag 0 none, 1 a proposition, 2 a datatype
-abbrev pub annotation_of : (tag number : ℕ) → Annotation
-annotation_of zero m = annotation.Missing
-annotation_of (suc zero) m = annotation.Of (sort.Proposition (record { 0 = m }))
-annotation_of (suc (suc t)) m = annotation.Of (sort.Datatype (record { 0 = m }))
+abbrev pub annotation_of : (tag number : ℕ) → Optional Sort
+annotation_of zero m = None
+annotation_of (suc zero) m = Some (sort.Proposition (record { 0 = m }))
+annotation_of (suc (suc t)) m = Some (sort.Datatype (record { 0 = m }))
 
 -- its type is among the first c propositions
-abbrev pub AnnotationIn : ℕ → Annotation → Type 0
-AnnotationIn c (annotation.Of T) = TypeIn c T
-AnnotationIn c annotation.Missing = Unit {0}
+abbrev pub AnnotationIn : ℕ → Optional Sort → Type 0
+AnnotationIn c (Some T) = TypeIn c T
+AnnotationIn c None = Unit {0}
 
 -- RESOLVING the annotation T of term p
 pub record ResolvedTo (l ps work ps' : List ℕ) (p : ℕ) (w : Want) (T : Sort) (st : State) (U : Sort) (st' : State) : Type 0 where
@@ -81,24 +70,24 @@ pub record ResolvedTo (l ps work ps' : List ℕ) (p : ℕ) (w : Want) (T : Sort)
   pub goes : (a : Arity) (k : Ty → Prog a)
       → Goes (resolved (number_of w 10 20) p (ctx_of l ps work st.context) (reads l ps T) k) st (k typ) st'
 
-abbrev pub ResolvingAs : (l ps work ps' : List ℕ) → ℕ → Want → Sort → State → Resolving → Type 0
-ResolvingAs l ps work ps' p w T st (resolving.To U st') = ResolvedTo l ps work ps' p w T st U st'
-ResolvingAs l ps work ps' p w T st (resolving.Refused r) =
+abbrev pub ResolvingAs : (l ps work ps' : List ℕ) → ℕ → Want → Sort → State → Result Resolution Refusal → Type 0
+ResolvingAs l ps work ps' p w T st (Ok r) = ResolvedTo l ps work ps' p w T st r.typ r.state
+ResolvingAs l ps work ps' p w T st (Err r) =
     (a : Arity) (k : Ty → Prog a) → Stops (resolved (number_of w 10 20) p (ctx_of l ps work st.context) (reads l ps T) k) st r
 
 -- what an annotation says to the rules
-abbrev pub saying : (l ps : List ℕ) → Annotation → Option Ty
-saying l ps (annotation.Of T) = some (reads l ps T)
-saying l ps annotation.Missing = none
+abbrev pub saying : (l ps : List ℕ) → Optional Sort → Option Ty
+saying l ps (Some T) = some (reads l ps T)
+saying l ps None = none
 
 -- THE ANNOTATION of the function p against the type A of its parameter
-pub record AgreedOn (l ps work ps' : List ℕ) (p : ℕ) (ann : Annotation) (A : Sort) (st st' : State) : Type 0 where
+pub record AgreedOn (l ps work ps' : List ℕ) (p : ℕ) (ann : Optional Sort) (A : Sort) (st st' : State) : Type 0 where
   pub making : Making l ps ps' st st'
   pub goes : (a : Arity) (k : Prog a) → Goes (annotated p (ctx_of l ps work st.context) (saying l ps ann) (reads l ps A) k) st k st'
 
-abbrev pub AgreedAs : (l ps work ps' : List ℕ) → ℕ → Annotation → Sort → State → Agreed → Type 0
-AgreedAs l ps work ps' p ann A st (agreed.On st') = AgreedOn l ps work ps' p ann A st st'
-AgreedAs l ps work ps' p ann A st (agreed.Refused r) =
+abbrev pub AgreedAs : (l ps work ps' : List ℕ) → ℕ → Optional Sort → Sort → State → Result State Refusal → Type 0
+AgreedAs l ps work ps' p ann A st (Ok st') = AgreedOn l ps work ps' p ann A st st'
+AgreedAs l ps work ps' p ann A st (Err r) =
     (a : Arity) (k : Prog a) → Stops (annotated p (ctx_of l ps work st.context) (saying l ps ann) (reads l ps A) k) st r
 
 -- THE FUNCTION p OPENED, after its serial i was made: k goes on from the rule's number, the parameter's type and the body's proposition
@@ -110,18 +99,18 @@ pub record OpenedTo (l ps ps' : List ℕ) (p : ℕ) (E : Sort) (i : ℕ) (st : S
   pub making : Making l ps ps' st st'
   pub goes : (a : Arity) (k : ℕ → Ty → Prop → Prog a) → Goes (opening p i (reads l ps E) k) st (k rule parameter body) st'
 
-abbrev pub OpenedAs : (l ps ps' : List ℕ) → ℕ → Sort → ℕ → State → Opened → Type 0
-OpenedAs l ps ps' p E i st (opened.Body rule A b st') = OpenedTo l ps ps' p E i st rule A b.0 st'
-OpenedAs l ps ps' p E i st (opened.Refused r) = (a : Arity) (k : ℕ → Ty → Prop → Prog a) → Stops (opening p i (reads l ps E) k) st r
+abbrev pub OpenedAs : (l ps ps' : List ℕ) → ℕ → Sort → ℕ → State → Result Opening Refusal → Type 0
+OpenedAs l ps ps' p E i st (Ok o) = OpenedTo l ps ps' p E i st (rule_number o.rule) o.parameter o.body.0 o.state
+OpenedAs l ps ps' p E i st (Err r) = (a : Arity) (k : ℕ → Ty → Prop → Prog a) → Stops (opening p i (reads l ps E) k) st r
 
 -- AN OBJECT, the term t: k goes on from its serial
 abbrev pub objects : (l ps work : List ℕ) → Want → (t : ℕ) → State → {a : Arity} → (ℕ → Prog (more a)) → Prog (more a)
 objects l ps work w t st k = objected (number_of w 13 24) (number_of w 10 20) t (ctx_of l ps work st.context) k
 
-abbrev pub ObjectAs : (l ps work : List ℕ) → Want → (t : ℕ) → State → Object → Type 0
-ObjectAs l ps work w t st (object.Known s) =
+abbrev pub ObjectAs : (l ps work : List ℕ) → Want → (t : ℕ) → State → Result Serial Refusal → Type 0
+ObjectAs l ps work w t st (Ok s) =
     (a : Arity) (k : ℕ → Prog (more a)) → GoesAt (ident_name (term_at l t)) (objects l ps work w t st k) st (k s.0) st
-ObjectAs l ps work w t st (object.Refused r) =
+ObjectAs l ps work w t st (Err r) =
     (a : Arity) (k : ℕ → Prog (more a)) → StopsAt (ident_name (term_at l t)) (objects l ps work w t st k) st r
 
 -- A LET OPENED at a head of type H: k goes on from the two serials, the datatype and the Exists' body with the first serial put in
@@ -144,18 +133,18 @@ pub record LetEntered (l ps work ps' work' : List ℕ) (x y : ℕ) (w : Want) (H
   pub goes : (a : Arity) (k : ℕ → ℕ → ℕ → Prop → Prog a)
       → Goes (let_opening (number_of w 12 22) p head (reads l ps H) k) st (k st.serials (st.serials + 1) datatype body) st'
 
-abbrev pub EnteredAs : (l ps work ps' work' : List ℕ) → (x y : ℕ) → Want → Sort → (p head : ℕ) → State → Entered → Type 0
-EnteredAs l ps work ps' work' x y w H p head st (entered.In st') = LetEntered l ps work ps' work' x y w H p head st st'
-EnteredAs l ps work ps' work' x y w H p head st (entered.Refused r) =
+abbrev pub EnteredAs : (l ps work ps' work' : List ℕ) → (x y : ℕ) → Want → Sort → (p head : ℕ) → State → Result State Refusal → Type 0
+EnteredAs l ps work ps' work' x y w H p head st (Ok st') = LetEntered l ps work ps' work' x y w H p head st st'
+EnteredAs l ps work ps' work' x y w H p head st (Err r) =
     (a : Arity) (k : ℕ → ℕ → ℕ → Prop → Prog a) → Stops (let_opening (number_of w 12 22) p head (reads l ps H) k) st r
 
 -- A LET CLOSED, whose body is p: the witness i does not stay in the type
 abbrev pub closes : (l ps : List ℕ) → Want → (p i : ℕ) → Sort → {a : Arity} → Prog a → Prog a
 closes l ps w p i T k = closing (number_of w 13 24) (number_of w 16 27) p i (reads l ps T) k
 
-abbrev pub ClosedAs : (l ps : List ℕ) → Want → (p i : ℕ) → Sort → State → Closed → Type 0
-ClosedAs l ps w p i T st closed.Shut = (a : Arity) (k : Prog a) → Goes (closes l ps w p i T k) st k st
-ClosedAs l ps w p i T st (closed.Refused r) = (a : Arity) (k : Prog a) → Stops (closes l ps w p i T k) st r
+abbrev pub ClosedAs : (l ps : List ℕ) → Want → (p i : ℕ) → Sort → State → Result (Unit {0}) Refusal → Type 0
+ClosedAs l ps w p i T st (Ok u) = (a : Arity) (k : Prog a) → Goes (closes l ps w p i T k) st k st
+ClosedAs l ps w p i T st (Err r) = (a : Arity) (k : Prog a) → Stops (closes l ps w p i T k) st r
 
 -- THE CONCLUSION of the function p, from the type of its parameter x, whose serial is i, and the proposition of its body
 pub record AbstractedTo (l ps ps' : List ℕ) (p x i : ℕ) (A : Sort) (b : ℕ) (st : State) (rule m : ℕ) (st' : State) : Type 0 where
@@ -164,6 +153,6 @@ pub record AbstractedTo (l ps ps' : List ℕ) (p x i : ℕ) (A : Sort) (b : ℕ)
   pub making : Making l ps ps' st st'
   pub goes : Goes (abstracted p x i (reads l ps A) (room_at (props l) ps b)) st (by rule p (prop whole) (i ∷ [])) st'
 
-abbrev pub AbstractedAs : (l ps ps' : List ℕ) → (p x i : ℕ) → Sort → ℕ → State → Abstracted → Type 0
-AbstractedAs l ps ps' p x i A b st (abstraction.To rule m st') = AbstractedTo l ps ps' p x i A b st rule m.0 st'
-AbstractedAs l ps ps' p x i A b st (abstraction.Refused r) = Stops (abstracted p x i (reads l ps A) (room_at (props l) ps b)) st r
+abbrev pub AbstractedAs : (l ps ps' : List ℕ) → (p x i : ℕ) → Sort → ℕ → State → Result Abstraction Refusal → Type 0
+AbstractedAs l ps ps' p x i A b st (Ok a) = AbstractedTo l ps ps' p x i A b st (rule_number a.rule) a.whole.0 a.state
+AbstractedAs l ps ps' p x i A b st (Err r) = Stops (abstracted p x i (reads l ps A) (room_at (props l) ps b)) st r

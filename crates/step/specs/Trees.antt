@@ -6,9 +6,31 @@ use Rattle.numbers.specs.Limits.{none}
 use Rattle.numbers.specs.Records.{word_at, record_at}
 use Rattle.context.specs.Context.{tag_of, number_of, sort_of}
 use Rattle.rules.specs.Tree.{Node, Gap, Trees, end, gap, node, records, holes, width}
+use Rattle.step.specs.declared.inference.Inference.{Inference}
+use Rattle.step.specs.declared.inference.Inference.TheVariants as by
 use Rattle.step.specs.declared.node.Goal.{Goal}
 use Rattle.step.specs.declared.node.NodeRecord.{NodeRecord}
 use Rattle.step.specs.Rooms.{Rooms, Stands}
+
+-- Document 01, the rules' numbers in the tree
+abbrev pub rule_number : Inference → ℕ
+rule_number by.Ident = 0
+rule_number by.TrueIntro = 1
+rule_number by.AndIntro = 2
+rule_number by.AndElimFst = 3
+rule_number by.AndElimSnd = 4
+rule_number by.ImplIntro = 5
+rule_number by.ImplElim = 6
+rule_number by.OrIntroFst = 7
+rule_number by.OrIntroSnd = 8
+rule_number by.OrElim = 9
+rule_number by.FalsumElim = 10
+rule_number by.ForAllIntro = 11
+rule_number by.ForAllElim = 12
+rule_number by.ExistsIntro = 13
+rule_number by.ExistsElim = 14
+rule_number by.Sorry = 15
+rule_number by.AlphaEq = 16
 
 -- A TREE RECORD: rule, tag, term, proposition or datatype, two serials, premises, zeros
 abbrev pub node_rec : (rule term : ℕ) → Sort → (first second premises : ℕ) → Record

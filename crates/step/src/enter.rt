@@ -10,22 +10,27 @@ use numbers::counter::Counter;
 use numbers::identifier::{Identifier, create};
 use numbers::{Name, Sort};
 
+// A new identifier, and the counts with its serial among them.
 #[derive(Clone, Copy)]
 pub struct Fresh {
     pub identifier: Identifier,
     pub state: State,
 }
 
-// A new identifier of that name, with the next serial.
-pub fn new_identifier(st: State, name: Name) -> Fresh
-    requires { st.serials < largest }
-    ensures { (result.identifier.name ≡ name) × (result.identifier.serial.0 ≡ st.serials) × (result.state ≡ numbered st) }
-{
-    let made = create(Counter { count: st.serials }, name);
-    let identifier = made.identifier;
-    let mut state = st;
-    state.serials = made.counter.count;
-    Fresh { identifier, state }
+impl State {
+    // A new identifier of that name, with the next serial.
+    pub fn new_identifier(self, name: Name) -> Fresh
+        requires { self.serials < largest }
+        ensures { (result.identifier.name ≡ name) × (result.identifier.serial.0 ≡ self.serials) × (result.state ≡ numbered self) }
+    {
+        let mut counter = Counter {
+            count: self.serials,
+        };
+        let identifier = create(&mut counter, name);
+        let serials = counter.count;
+        let state = State { serials, ..self };
+        Fresh { identifier, state }
+    }
 }
 
 // The context gets an entry.
@@ -35,12 +40,16 @@ pub fn enter(work: &mut [u8], st: State, identifier: Identifier, typ: Sort) -> S
     ensures { (result ≡ deeper st) × Inserted work.old st.context
         (record { name = identifier.name; serial = identifier.serial; typ = typ }) work.new }
 {
-    let name = identifier.name;
-    let serial = identifier.serial;
-    insert(work, st.context as usize, Entry { name, serial, typ });
-    let mut s = st;
-    s.context += 1;
-    s
+    let entry = Entry {
+        name: identifier.name,
+        serial: identifier.serial,
+        typ,
+    };
+    insert(work, usize::from(st.context), entry);
+    State {
+        context: st.context + 1,
+        ..st
+    }
 }
 
 // A new identifier of that name, and its entry.
@@ -50,8 +59,6 @@ pub fn enter_fresh(work: &mut [u8], st: State, name: Name, typ: Sort) -> State
     ensures { (result ≡ deeper (numbered st)) × Inserted work.old st.context
         (record { name = name; serial = record { 0 = st.serials }; typ = typ }) work.new }
 {
-    let f = new_identifier(st, name);
-    let identifier = f.identifier;
-    let s = f.state;
-    enter(work, s, identifier, typ)
+    let fresh = st.new_identifier(name);
+    enter(work, fresh.state, fresh.identifier, typ)
 }

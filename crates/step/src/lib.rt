@@ -2,6 +2,7 @@
 #![tactic(auto)]
 
 pub mod enter;
+pub mod inference;
 pub mod node;
 pub mod open;
 pub mod picture;

@@ -1,48 +1,14 @@
 // Records of the proof tree and of the goals.
 ghost use Rattle.std.specs.Prelude.{◌≡◌, ◌+◌, ◌*◌, ◌≤◌, length};
 ghost use Rattle.numbers.specs.Records.{Put};
-ghost use Rattle.step.specs.Trees.{node_rec, node_at, goal_at, goal_rec, PutGoal};
+ghost use Rattle.step.specs.Trees.{rule_number, node_rec, node_at, goal_at, goal_rec, PutGoal};
 
+use super::inference::Inference;
 use context::identifier_context::sort_of;
 use numbers::record::{Record, put, put_word, record_at, word};
 use numbers::{Proposition, Serial, Sort, Term};
 
-// Document 01, the rules' numbers in the tree.
-pub const IDENT: u8 = 0;
-
-pub const TRUE_INTRO: u8 = 1;
-
-pub const AND_INTRO: u8 = 2;
-
-pub const AND_ELIM_FST: u8 = 3;
-
-pub const AND_ELIM_SND: u8 = 4;
-
-pub const IMPL_INTRO: u8 = 5;
-
-pub const IMPL_ELIM: u8 = 6;
-
-pub const OR_INTRO_FST: u8 = 7;
-
-pub const OR_INTRO_SND: u8 = 8;
-
-pub const OR_ELIM: u8 = 9;
-
-pub const FALSUM_ELIM: u8 = 10;
-
-pub const FOR_ALL_INTRO: u8 = 11;
-
-pub const FOR_ALL_ELIM: u8 = 12;
-
-pub const EXISTS_INTRO: u8 = 13;
-
-pub const EXISTS_ELIM: u8 = 14;
-
-pub const SORRY: u8 = 15;
-
-pub const ALPHA_EQ: u8 = 16;
-
-// What a node's sixteen bytes say: where it has no serial stands `Serial::NONE`.
+// What a node's sixteen bytes say: where it has no serial stands `Serial::NONE`. The rule is a number, since a tree's bytes can be anything.
 #[derive(Clone, Copy)]
 pub struct NodeRecord {
     pub rule: u8,
@@ -62,28 +28,43 @@ pub struct Goal {
     pub zero: u16,
 }
 
-// A node's record: its conclusion is a proposition, or a datatype in a type judgement.
-pub fn node(rule: u8, term: Term, t: Sort, first: Serial, second: Serial, premises: u16) -> Record
+// A node's record: its conclusion is a proposition, or a datatype in a type judgement. Any rule number may stand in it.
+pub fn node_record(
+    rule: u8,
+    term: Term,
+    t: Sort,
+    first: Serial,
+    second: Serial,
+    premises: u16,
+) -> Record
     ensures { result ≡ node_rec rule term.0 t first.0 second.0 premises }
 {
-    match t {
-        Sort::Proposition(p) => Record {
-            kind: rule,
-            count: 0,
-            a: term.0,
-            b: p.0,
-            c: first.0,
-            parameters: [second.0, premises, 0, 0],
-        },
-        Sort::Datatype(d) => Record {
-            kind: rule,
-            count: 1,
-            a: term.0,
-            b: d.0,
-            c: first.0,
-            parameters: [second.0, premises, 0, 0],
-        },
+    let (count, b) = match t {
+        Sort::Proposition(p) => (0, p.0),
+        Sort::Datatype(d) => (1, d.0),
+    };
+    Record {
+        kind: rule,
+        count,
+        a: term.0,
+        b,
+        c: first.0,
+        parameters: [second.0, premises, 0, 0],
     }
+}
+
+// The record of a node by one of the rules.
+pub fn node(
+    rule: Inference,
+    term: Term,
+    t: Sort,
+    first: Serial,
+    second: Serial,
+    premises: u16,
+) -> Record
+    ensures { result ≡ node_rec (rule_number rule) term.0 t first.0 second.0 premises }
+{
+    node_record(rule.number(), term, t, first, second, premises)
 }
 
 // The node becomes record `at` of the tree.
@@ -91,7 +72,7 @@ pub fn put_node(tree: &mut [u8], at: u16, r: Record)
     requires { 16 * at + 16 ≤ length tree.old }
     ensures { Put tree.old at r tree.new }
 {
-    put(tree, at as usize, r);
+    put(tree, usize::from(at), r);
 }
 
 // Node n of the tree, whatever its bytes are.
@@ -99,11 +80,11 @@ pub fn node_at(tree: &[u8], n: u16) -> NodeRecord
     requires { 16 * n + 16 ≤ length tree.now }
     ensures { result ≡ node_at tree.now n }
 {
-    let r = record_at(tree, n as usize);
+    let r = record_at(tree, usize::from(n));
     NodeRecord {
         rule: r.kind,
         term: Term(r.a),
-        conclusion: sort_of(r.count as u16, r.b),
+        conclusion: sort_of(u16::from(r.count), r.b),
         first: Serial(r.c),
         second: Serial(r.parameters[0]),
         premises: r.parameters[1],
@@ -115,7 +96,7 @@ pub fn put_goal(goals: &mut [u8], at: u16, g: Goal)
     requires { 8 * at + 8 ≤ length goals.old }
     ensures { PutGoal goals.old at g goals.new }
 {
-    let i = 8 * (at as usize);
+    let i = 8 * usize::from(at);
     put_word(goals, i, g.term.0);
     put_word(goals, i + 2, g.proposition.0);
     put_word(goals, i + 4, g.context);
@@ -127,10 +108,10 @@ pub fn goal_at(goals: &[u8], i: u16) -> Goal
     requires { 8 * i + 8 ≤ length goals.now }
     ensures { result ≡ goal_at goals.now i }
 {
-    let at = 8 * (i as usize);
+    let at = 8 * usize::from(i);
     Goal {
-        term: Term(word(goals, at)),
-        proposition: Proposition(word(goals, at + 2)),
+        term: Term::from_bytes(goals, at),
+        proposition: Proposition::from_bytes(goals, at + 2),
         context: word(goals, at + 4),
         zero: word(goals, at + 6),
     }
@@ -140,18 +121,14 @@ pub fn goal_at(goals: &[u8], i: u16) -> Goal
 pub fn goal_of(term: Term, t: Sort, context: u16) -> Goal
     ensures { result ≡ goal_rec term.0 t context }
 {
-    match t {
-        Sort::Proposition(p) => Goal {
-            term,
-            proposition: p,
-            context,
-            zero: 0,
-        },
-        Sort::Datatype(d) => Goal {
-            term,
-            proposition: Proposition(d.0),
-            context,
-            zero: 0,
-        },
+    let proposition = match t {
+        Sort::Proposition(p) => p,
+        Sort::Datatype(d) => Proposition(d.0),
+    };
+    Goal {
+        term,
+        proposition,
+        context,
+        zero: 0,
     }
 }

@@ -11,44 +11,30 @@ ghost use Rattle.step.specs.Rooms.{count_of, Loaded, Table, most_serials};
 ghost use Rattle.step.specs.Steps.{OpenedAs, ObjectAs, EnteredAs, ClosedAs, AbstractedAs};
 
 use super::enter::enter_fresh;
-use super::node::{FOR_ALL_INTRO, IMPL_INTRO};
-use super::state::{State, Want, count_of, grown, left_of, of, term_record};
-use arena::make::{Made, make_forall, make_impl, put_in};
-use context::identifier_context::{Found, get_by_name};
+use super::inference::Inference;
+use super::state::{State, Want, term_record};
+use arena::make::{make_forall, make_impl, put_in};
+use context::identifier_context::get_by_name;
 use layout::record::TermRecord;
-use numbers::refusal::Refusal;
+use numbers::refusal::{Reason, Refusal};
 use numbers::{Name, Proposition, Serial, Sort, Term};
-use prop::head::{Link, Parts, Quant, Quantified, over, split};
-use prop::holds::holds;
+use prop::head::{Link, Quant};
 
+// A function's type opened: the rule, the parameter's type, the body's proposition, and the counts after that.
 #[derive(Clone, Copy)]
-pub enum Opened {
-    Body(u8, Sort, Proposition, State),
-    Refused(Refusal),
+pub struct Opening {
+    pub rule: Inference,
+    pub parameter: Sort,
+    pub body: Proposition,
+    pub state: State,
 }
 
+// What a synthesized function concludes: the rule, the proposition, and the counts after that.
 #[derive(Clone, Copy)]
-pub enum Object {
-    Known(Serial),
-    Refused(Refusal),
-}
-
-#[derive(Clone, Copy)]
-pub enum Entered {
-    In(State),
-    Refused(Refusal),
-}
-
-#[derive(Clone, Copy)]
-pub enum Closed {
-    Shut,
-    Refused(Refusal),
-}
-
-#[derive(Clone, Copy)]
-pub enum Abstracted {
-    To(u8, Proposition, State),
-    Refused(Refusal),
+pub struct Abstraction {
+    pub rule: Inference,
+    pub whole: Proposition,
+    pub state: State,
 }
 
 // The rule, the parameter's type and the body's proposition of the function k that is to have the wanted type; serial i is its identifier's.
@@ -59,47 +45,52 @@ pub fn open_function(
     wanted: Sort,
     i: Serial,
     st: State,
-) -> Opened
+) -> Result<Opening, Refusal>
     requires counted { Counted file.now }
     requires loaded { Loaded file.now props.old (count_of file.now st) }
     requires type_in { TypeIn (count_of file.now st) wanted × (st.made ≤ limit) }
     ensures { OpenedAs file.now props.old props.new k.0 wanted i.0 st result }
 {
-    let count = count_of(file, st);
-    if let Parts::Both(a, b) = split(props, count, wanted, Link::Impl) {
-        return Opened::Body(IMPL_INTRO, Sort::Proposition(a), b, st);
+    let held = st.held(file, props);
+    if let Some(parts) = held.split(wanted, Link::Impl) {
+        return Ok(Opening {
+            rule: Inference::ImplIntro,
+            parameter: Sort::Proposition(parts.left),
+            body: parts.right,
+            state: st,
+        });
     }
-    let Quantified::Over { datatype, body } = over(props, count, wanted, Quant::All) else {
-        return Opened::Refused(Refusal::at(11, k));
+    let Some(all) = held.over(wanted, Quant::All) else {
+        return Err(Reason::CheckWrongTerm.at(k));
     };
-    match put_in(props, count, left_of(st), body, i) {
-        Made::Full => Opened::Refused(Refusal::at(30, k)),
-        Made::At(m, end) => Opened::Body(
-            FOR_ALL_INTRO,
-            Sort::Datatype(datatype),
-            m,
-            grown(st, count, end),
-        ),
-    }
+    let count = held.count;
+    let body = put_in(props, count, st.left(), all.body, i).ok_or(Reason::TooManyMade.at(k))?;
+    Ok(Opening {
+        rule: Inference::ForAllIntro,
+        parameter: Sort::Datatype(all.datatype),
+        body: body.at,
+        state: st.grown(count, body.count),
+    })
 }
 
 // The serial of the object that term t names: an Ident, else 13 / 24, of a known name, else 10 / 20.
-pub fn object_of(file: &[u8], work: &[u8], w: Want, t: Term, st: State) -> Object
+pub fn object_of(file: &[u8], work: &[u8], w: Want, t: Term, st: State) -> Result<Serial, Refusal>
     requires table { Table file.now }
     requires t_bound { t.0 < terms file.now }
     requires context_in_bounds { 8 * st.context ≤ length work.now }
     ensures { (ps : List ℕ) → ObjectAs file.now ps work.now w t.0 st result }
 {
     let r = term_record(file, t);
+    // 0 is Ident.
     if r.kind != 0 {
-        return Object::Refused(Refusal::at(of(w, 13, 24), t));
+        let why = w.either(Reason::CheckNoObject, Reason::SynthNoProposition);
+        return Err(why.at(t));
     }
-    let x = r.name1;
-    let Found::Held(e) = get_by_name(work, st.context as usize, x) else {
-        return Object::Refused(Refusal::at(of(w, 10, 20), t));
+    let Some(e) = get_by_name(work, usize::from(st.context), r.name1) else {
+        let why = w.either(Reason::CheckUnknownName, Reason::SynthUnknownName);
+        return Err(why.at(t));
     };
-    let i = e.serial;
-    Object::Known(i)
+    Ok(e.serial)
 }
 
 // A let at term k, whose head is of type t: an Exists, else 12 / 22 at the head; two identifiers, the Exists' body with the first put in, and an
@@ -113,7 +104,7 @@ pub fn open_let(
     r: TermRecord,
     t: Sort,
     st: State,
-) -> Entered
+) -> Result<State, Refusal>
     requires counted { Counted file.now }
     requires loaded { Loaded file.now props.old (count_of file.now st) }
     requires type_in { TypeIn (count_of file.now st) t × (st.made ≤ limit) }
@@ -121,22 +112,17 @@ pub fn open_let(
     ensures { EnteredAs file.now props.old work.old props.new work.new r.name1.0
         r.name2.0 w t k.0 r.child1.0 st result }
 {
-    let count = count_of(file, st);
-    let Quantified::Over { datatype, body } = over(props, count, t, Quant::Ex) else {
-        let h = r.child1;
-        return Entered::Refused(Refusal::at(of(w, 12, 22), h));
+    let held = st.held(file, props);
+    let Some(ex) = held.over(t, Quant::Ex) else {
+        let why = w.either(Reason::CheckWrongHead, Reason::SynthWrongHead);
+        return Err(why.at(r.child1));
     };
-    let x = r.name1;
+    let count = held.count;
     let i = Serial(st.serials);
-    match put_in(props, count, left_of(st), body, i) {
-        Made::Full => Entered::Refused(Refusal::at(30, k)),
-        Made::At(m, end) => {
-            let s = grown(st, count, end);
-            let one = enter_fresh(work, s, x, Sort::Datatype(datatype));
-            let y = r.name2;
-            Entered::In(enter_fresh(work, one, y, Sort::Proposition(m)))
-        }
-    }
+    let body = put_in(props, count, st.left(), ex.body, i).ok_or(Reason::TooManyMade.at(k))?;
+    let s = st.grown(count, body.count);
+    let one = enter_fresh(work, s, r.name1, Sort::Datatype(ex.datatype));
+    Ok(enter_fresh(work, one, r.name2, Sort::Proposition(body.at)))
 }
 
 // What a let answers, whose body is term `body`: a proposition, else 13 / 24, without its witness, else 16 / 27.
@@ -148,20 +134,21 @@ pub fn close_let(
     t: Sort,
     witness: Serial,
     st: State,
-) -> Closed
+) -> Result<(), Refusal>
     requires counted { Counted file.now }
     requires loaded { Loaded file.now props.now (count_of file.now st) }
     requires type_in { TypeIn (count_of file.now st) t × (st.made ≤ limit) }
     ensures { ClosedAs file.now props.now w body.0 witness.0 t st result }
 {
     let Sort::Proposition(n) = t else {
-        return Closed::Refused(Refusal::at(of(w, 13, 24), body));
+        let why = w.either(Reason::CheckNoObject, Reason::SynthNoProposition);
+        return Err(why.at(body));
     };
-    let count = count_of(file, st);
-    if holds(props, count, n, witness) {
-        Closed::Refused(Refusal::at(of(w, 16, 27), body))
+    if st.held(file, props).holds(n, witness) {
+        let why = w.either(Reason::CheckWitnessEscapes, Reason::SynthWitnessEscapes);
+        Err(why.at(body))
     } else {
-        Closed::Shut
+        Ok(())
     }
 }
 
@@ -175,22 +162,25 @@ pub fn abstract_over(
     t: Sort,
     b: Proposition,
     st: State,
-) -> Abstracted
+) -> Result<Abstraction, Refusal>
     requires counted { Counted file.now }
     requires loaded { Loaded file.now props.old (count_of file.now st) }
     requires type_in { TypeIn (count_of file.now st) t × (b.0 < count_of file.now st) × (st.made ≤ limit) }
     ensures { AbstractedAs file.now props.old props.new k.0 x.0 i.0 t b.0 st result }
 {
-    let count = count_of(file, st);
-    let left = left_of(st);
-    match t {
-        Sort::Proposition(a) => match make_impl(props, count, left, a, b) {
-            Made::Full => Abstracted::Refused(Refusal::at(30, k)),
-            Made::At(m, end) => Abstracted::To(IMPL_INTRO, m, grown(st, count, end)),
-        },
-        Sort::Datatype(d) => match make_forall(props, count, left, x, d, i, b) {
-            Made::Full => Abstracted::Refused(Refusal::at(30, k)),
-            Made::At(m, end) => Abstracted::To(FOR_ALL_INTRO, m, grown(st, count, end)),
-        },
-    }
+    let count = st.count(file);
+    let left = st.left();
+    let (rule, made) = match t {
+        Sort::Proposition(a) => (Inference::ImplIntro, make_impl(props, count, left, a, b)),
+        Sort::Datatype(d) => (
+            Inference::ForAllIntro,
+            make_forall(props, count, left, x, d, i, b),
+        ),
+    };
+    let made = made.ok_or(Reason::TooManyMade.at(k))?;
+    Ok(Abstraction {
+        rule,
+        whole: made.at,
+        state: st.grown(count, made.count),
+    })
 }

@@ -1,5 +1,5 @@
 // The picture of a goal: what the rules knew at one Sorry of a run, kept in the work room behind the context's entries, for a filling to start from.
-ghost use Rattle.std.specs.Prelude.{◌≡◌, ◌⊎◌, ◌+◌, ◌*◌, ◌≤◌, length};
+ghost use Rattle.std.specs.Prelude.{◌≡◌, ◌+◌, ◌*◌, ◌≤◌, length};
 ghost use Rattle.context.specs.Context.{most_entries};
 ghost use Rattle.step.specs.Rooms.{first_pictured, run_room};
 ghost use Rattle.step.specs.Picture.{pictured_state, pictured_type, Copied, Taken, Pictured};
@@ -27,18 +27,12 @@ const TYPE: usize = LIMIT + 1;
 
 const FIRST: usize = LIMIT + 2;
 
-// The n entries from one number on, copied to another number on. They do not overlap.
-fn copy_entries(work: &mut [u8], from: usize, to: usize, n: usize)
-    requires n_in_bounds { (8 * (from + n) ≤ length work.old) × (8 * (to + n) ≤ length work.old) }
-    requires fact { (from + n ≤ to) ⊎ (to + n ≤ from) }
+// The n entries from one number on, copied to another number on. An entry takes eight bytes.
+fn copy_entries(work: &mut [u8], from: usize, to: usize, n: u16)
+    requires { (8 * (from + n) ≤ length work.old) × (8 * (to + n) ≤ length work.old) }
     ensures { Copied work.old from to n work.new }
 {
-    let mut i = 0;
-    while i < n {
-        let e = entry_at(work, from + i);
-        insert(work, to + i, e);
-        i += 1;
-    }
+    work.copy_within(8 * from..8 * (from + usize::from(n)), 8 * to);
 }
 
 // What is known at a Sorry that wants this type.
@@ -55,7 +49,7 @@ fn take(work: &mut [u8], wanted: Sort, st: State)
         typ: wanted,
     };
     insert(work, TYPE, e);
-    copy_entries(work, 0, FIRST, st.context as usize);
+    copy_entries(work, 0, FIRST, st.context);
 }
 
 // The same, if the next goal is the one that is asked for.
@@ -74,21 +68,15 @@ pub fn recall(work: &mut [u8]) -> Start
     ensures { (result.wanted ≡ pictured_type work.old) × (result.state ≡ pictured_state work.old) × Copied work.old
         first_pictured 0 (pictured_state work.old).context work.new }
 {
-    let e = entry_at(work, TYPE);
-    let wanted = e.typ;
-    let serials = word(work, SERIALS);
-    let made = word(work, MADE);
-    let context = word(work, LENGTH);
-    copy_entries(work, FIRST, 0, context as usize);
-    Start {
-        wanted,
-        state: State {
-            records: 0,
-            goals: 0,
-            serials,
-            made,
-            context,
-            asked: State::NO_PICTURE,
-        },
-    }
+    let wanted = entry_at(work, TYPE).typ;
+    let state = State {
+        records: 0,
+        goals: 0,
+        serials: word(work, SERIALS),
+        made: word(work, MADE),
+        context: word(work, LENGTH),
+        asked: State::NO_PICTURE,
+    };
+    copy_entries(work, FIRST, 0, state.context);
+    Start { wanted, state }
 }

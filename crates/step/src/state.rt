@@ -3,15 +3,16 @@ ghost use Rattle.std.specs.Prelude.{◌≡◌, ◌+◌, ◌<◌, ◌≤◌, leng
 ghost use Rattle.numbers.specs.Limits.{largest};
 ghost use Rattle.rules.specs.State.{limit};
 ghost use Rattle.layout.specs.File.{props, terms, term_record};
+ghost use Rattle.prop.specs.Room.{Arena};
 ghost use Rattle.arena.specs.Copy.{most_records};
 ghost use Rattle.table.specs.Passing.{Counted};
-ghost use Rattle.step.specs.Modes.{answer_of, number_of};
+ghost use Rattle.step.specs.Modes.{answer_of, either};
 ghost use Rattle.step.specs.Rooms.{count_of, inner, leaving};
 
 use layout::header::proposition_count;
 use layout::record::{TermRecord, term_at};
-use numbers::refusal::Refusal;
 use numbers::{Proposition, Sort, Term};
+use prop::propositions::Propositions;
 
 // The counts: tree records, goals, serials and propositions made so far, and how many entries the context has; and the number of the goal whose
 // picture the run takes, which it never changes.
@@ -28,87 +29,113 @@ pub struct State {
 impl State {
     // No goal has that number, so it asks for no picture.
     pub const NO_PICTURE: u16 = 65535;
+
+    // Nothing made yet, an empty context, and no picture asked for.
+    pub const START: State = State {
+        records: 0,
+        goals: 0,
+        serials: 0,
+        made: 0,
+        context: 0,
+        asked: State::NO_PICTURE,
+    };
+
+    // How many propositions the room holds: the table's, and those made.
+    #[tactic(auto, unfolding(rules::specs::State::limit))]
+    pub fn count(self, file: &[u8]) -> u16
+        requires in_bounds { 16 ≤ length file.now }
+        requires st_bound { count_of file.now self ≤ most_records }
+        ensures { result ≡ count_of file.now self }
+    {
+        proposition_count(file) + self.made
+    }
+
+    // The propositions in the room.
+    pub fn held<'a>(self, file: &[u8], props: &'a [u8]) -> Propositions<'a>
+        requires in_bounds { 16 ≤ length file.now }
+        requires st_bound { count_of file.now self ≤ most_records }
+        requires arena { Arena props.now (count_of file.now self) }
+        ensures room { result.room.now ≡ props.now }
+        ensures count { result.count ≡ count_of file.now self }
+    {
+        let count = self.count(file);
+        Propositions { room: props, count }
+    }
+
+    // How many propositions may still be made.
+    #[tactic(auto, unfolding(rules::specs::State::limit))]
+    pub fn left(self) -> u16
+        requires { self.made ≤ limit }
+        ensures { result + self.made ≡ limit }
+    {
+        Proposition::MADE - self.made
+    }
+
+    // The counts once there are `end` propositions where there were `count`.
+    pub fn grown(self, count: u16, end: u16) -> Self
+        requires { (count ≤ end) × (self.made + end ≤ largest) }
+        ensures { (result.made + count ≡ self.made + end) × (result.records ≡ self.records) × (result.goals ≡ self.goals)
+            × (result.serials ≡ self.serials) × (result.context ≡ self.context) × (result.asked ≡ self.asked) }
+    {
+        State {
+            made: self.made + (end - count),
+            ..self
+        }
+    }
+
+    // Premises stand behind their parent's record, which is written last.
+    pub fn inner(self) -> Self
+        requires { self.records < largest }
+        ensures { result ≡ inner self }
+    {
+        State {
+            records: self.records + 1,
+            ..self
+        }
+    }
+
+    // The context is again as long as it was.
+    pub fn leave(self, context: u16) -> Self
+        ensures { result ≡ leaving self context }
+    {
+        State { context, ..self }
+    }
 }
 
-// A term is asked for its type, or held to one.
+// A term is asked for its type, or held to one. No `Option`: this is the mode, and `None` would not say that a type is asked for.
 #[derive(Clone, Copy)]
 pub enum Want {
     Synth,
     Check(Sort),
 }
 
-// What a run answers: a type, which in a check is the wanted one, or a refusal.
+impl Want {
+    // The type that a rule answers: the wanted one, else what was found.
+    pub fn answered(self, t: Sort) -> Sort
+        ensures { result ≡ answer_of self t }
+    {
+        match self {
+            Want::Synth => t,
+            Want::Check(e) => e,
+        }
+    }
+
+    // Of two reasons for a refusal, as 12 / 22, the first is for checking and the second for synthesis.
+    pub fn either<T: Copy>(self, a: T, b: T) -> T
+        ensures { result ≡ either self a b }
+    {
+        match self {
+            Want::Synth => b,
+            Want::Check(_) => a,
+        }
+    }
+}
+
+// What a run answers, unless it refuses: a type, which in a check is the wanted one, and the counts that it left.
 #[derive(Clone, Copy)]
-pub enum Ran {
-    Has(Sort, State),
-    Refused(Refusal),
-}
-
-// The type that a rule answers: the wanted one, else what was found.
-pub fn answered(w: Want, t: Sort) -> Sort
-    ensures { result ≡ answer_of w t }
-{
-    match w {
-        Want::Synth => t,
-        Want::Check(e) => e,
-    }
-}
-
-// Of two refusal numbers, as 12 / 22, the first is for checking and the second for synthesis.
-pub fn of(w: Want, a: u8, b: u8) -> u8
-    ensures { result ≡ number_of w a b }
-{
-    match w {
-        Want::Synth => b,
-        Want::Check(_) => a,
-    }
-}
-
-// How many propositions the room holds: the table's, and those made.
-pub fn count_of(file: &[u8], st: State) -> u16
-    requires in_bounds { 16 ≤ length file.now }
-    requires st_bound { count_of file.now st ≤ most_records }
-    ensures { result ≡ count_of file.now st }
-{
-    proposition_count(file) + st.made
-}
-
-// How many propositions may still be made.
-pub fn left_of(st: State) -> u16
-    requires { st.made ≤ limit }
-    ensures { result + st.made ≡ limit }
-{
-    Proposition::MADE - st.made
-}
-
-// The counts once there are `end` propositions where there were `count`.
-pub fn grown(st: State, count: u16, end: u16) -> State
-    requires { (count ≤ end) × (st.made + end ≤ largest) }
-    ensures { (result.made + count ≡ st.made + end) × (result.records ≡ st.records) × (result.goals ≡ st.goals) × (result.serials ≡ st.serials)
-        × (result.context ≡ st.context) × (result.asked ≡ st.asked) }
-{
-    let mut s = st;
-    s.made += end - count;
-    s
-}
-
-// Premises stand behind their parent's record, which is written last.
-pub fn inner(st: State) -> State
-    requires { st.records < largest }
-    ensures { result ≡ inner st }
-{
-    let mut s = st;
-    s.records += 1;
-    s
-}
-
-// The context is again as long as it was.
-pub fn leave(st: State, context: u16) -> State
-    ensures { result ≡ leaving st context }
-{
-    let mut s = st;
-    s.context = context;
-    s
+pub struct Answer {
+    pub typ: Sort,
+    pub state: State,
 }
 
 // The record of term k.

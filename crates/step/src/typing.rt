@@ -6,39 +6,27 @@ ghost use Rattle.table.specs.Passing.{Counted};
 ghost use Rattle.step.specs.Rooms.{count_of, Loaded};
 ghost use Rattle.step.specs.Steps.{annotation_of, AnnotationIn, ResolvingAs, AgreedAs};
 
-use super::state::{State, Want, count_of, grown, left_of, of};
-use arena::resolve::{Resolved, resolve};
+use super::state::{State, Want};
+use arena::resolve::{Unresolved, resolve};
 use layout::record::TermRecord;
-use numbers::refusal::Refusal;
+use numbers::refusal::{Reason, Refusal};
 use numbers::{Name, Proposition, Sort, Term};
-use prop::compare::{compare_types, is_alpha};
 
+// What an annotation's type is with its free names resolved, and the counts after that.
 #[derive(Clone, Copy)]
-pub enum Annotation {
-    Of(Sort),
-    Missing,
+pub struct Resolution {
+    pub typ: Sort,
+    pub state: State,
 }
 
-#[derive(Clone, Copy)]
-pub enum Resolving {
-    To(Sort, State),
-    Refused(Refusal),
-}
-
-#[derive(Clone, Copy)]
-pub enum Agreed {
-    On(State),
-    Refused(Refusal),
-}
-
-pub fn annotation_of(r: TermRecord) -> Annotation
+// The annotation of a term's record, if it has one.
+pub fn annotation_of(r: TermRecord) -> Option<Sort>
     ensures { result ≡ annotation_of r.tag r.typ }
 {
-    let tag = r.tag;
-    match tag {
-        0 => Annotation::Missing,
-        1 => Annotation::Of(Sort::Proposition(Proposition(r.typ))),
-        _ => Annotation::Of(Sort::Datatype(Name(r.typ))),
+    match r.tag {
+        0 => None,
+        1 => Some(Sort::Proposition(Proposition(r.typ))),
+        _ => Some(Sort::Datatype(Name(r.typ))),
     }
 }
 
@@ -51,19 +39,25 @@ pub fn resolve_type(
     w: Want,
     t: Sort,
     st: State,
-) -> Resolving
+) -> Result<Resolution, Refusal>
     requires counted { Counted file.now }
     requires loaded { Loaded file.now props.old (count_of file.now st) }
     requires type_in { TypeIn (count_of file.now st) t }
     requires made_le_limit { (st.made ≤ limit) × (8 * st.context ≤ length work.now) }
     ensures { ResolvingAs file.now props.old work.now props.new k.0 w t st result }
 {
-    let count = count_of(file, st);
-    let left = left_of(st);
-    match resolve(props, count, left, work, st.context as usize, t) {
-        Resolved::Unknown => Resolving::Refused(Refusal::at(of(w, 10, 20), k)),
-        Resolved::Full => Resolving::Refused(Refusal::at(30, k)),
-        Resolved::To(u, end) => Resolving::To(u, grown(st, count, end)),
+    let count = st.count(file);
+    let left = st.left();
+    match resolve(props, count, left, work, usize::from(st.context), t) {
+        Ok(r) => Ok(Resolution {
+            typ: r.typ,
+            state: st.grown(count, r.count),
+        }),
+        Err(Unresolved::Unknown) => {
+            let why = w.either(Reason::CheckUnknownName, Reason::SynthUnknownName);
+            Err(why.at(k))
+        }
+        Err(Unresolved::Full) => Err(Reason::TooManyMade.at(k)),
     }
 }
 
@@ -73,29 +67,24 @@ pub fn agree(
     props: &mut [u8],
     work: &[u8],
     k: Term,
-    a: Annotation,
+    a: Option<Sort>,
     wanted: Sort,
     st: State,
-) -> Agreed
+) -> Result<State, Refusal>
     requires counted { Counted file.now }
     requires loaded { Loaded file.now props.old (count_of file.now st) }
     requires annotation_in { AnnotationIn (count_of file.now st) a × TypeIn (count_of file.now st) wanted }
     requires made_le_limit { (st.made ≤ limit) × (8 * st.context ≤ length work.now) }
     ensures { AgreedAs file.now props.old work.now props.new k.0 a wanted st result }
 {
-    let Annotation::Of(t) = a else {
-        return Agreed::On(st);
+    let Some(t) = a else {
+        return Ok(st);
     };
-    match resolve_type(file, props, work, k, Want::Check(wanted), t, st) {
-        Resolving::Refused(r) => Agreed::Refused(r),
-        Resolving::To(u, s) => {
-            let count = count_of(file, s);
-            let c = compare_types(props, count, u, wanted);
-            if is_alpha(c) {
-                Agreed::On(s)
-            } else {
-                Agreed::Refused(Refusal::at(14, k))
-            }
-        }
+    let r = resolve_type(file, props, work, k, Want::Check(wanted), t, st)?;
+    let held = r.state.held(file, props);
+    if held.compare_types(r.typ, wanted).is_alpha() {
+        Ok(r.state)
+    } else {
+        Err(Reason::CheckOtherType.at(k))
     }
 }

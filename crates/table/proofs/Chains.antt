@@ -1,27 +1,24 @@
 -- The nearest quantifiers above: how the code writes them into the work room, how it looks a name up along them, and test 7.
 -- Assumes nothing.
+use Rattle.std.specs.Prelude.{Option, Some, None, is_some}
 use mathlib.Core.Path.{◌≡◌, refl, ap, ap₂, sym, ◌∙◌, subst, subst₂, subst⁻¹}
-use mathlib.Core.Bool.{Bool, true, false, ◌&&◌, ◌||◌, not, cond, and-true}
+use mathlib.Core.Bool.{Bool, true, false, ◌&&◌, cond}
 use mathlib.Core.List.{List, [], ◌∷◌, map}
 use mathlib.Core.Logic.{◌⊎◌, inl, inr}
 use Prim.Native.Nat.{ℕ, zero, suc, ◌+◌, ◌*◌, ◌-◌, ◌<◌, ◌≤◌}
 use native.Mathlib.Nat.{eq-or-lt_of_le}
 use native.Mathlib.Numerals.{add-one}
 use native.Mathlib.Omega.{arith}
-use lib.ListN.{length, get_or, take}
+use Rattle.std.specs.List.{list_all}
+use lib.ListN.{length}
 use lib.Dec.{eqb, ltb}
 use borrow.Author.Tests.{eq-eqb, ne_eqb, eqb-true, eqb-false, lt-ltb, ltb-true}
 use Rattle.numbers.specs.declared.record.Record.{Record}
 use Rattle.numbers.specs.Limits.{none}
-use Rattle.numbers.specs.Records.{word_at, put_word}
-use Rattle.numbers.proofs.Records.{length_word, word_far, word_same}
+use Rattle.numbers.specs.Records.{word_at}
 use Rattle.rules.specs.Prop.{Param, free, bound, each_param, named_not, closed}
 use Rattle.table.specs.declared.Purpose.{Purpose}
 use Rattle.table.specs.declared.Purpose.TheVariants.{Check, Filling}
-use Rattle.table.specs.declared.above.Settled.{Settled}
-use Rattle.table.specs.declared.above.Settled.TheVariants.{Free, Bound}
-use Rattle.table.specs.declared.Guilty.{Guilty}
-use Rattle.table.specs.declared.Guilty.TheVariants.{At, Nobody}
 use Rattle.layout.specs.declared.form.PropShape.{PropShape}
 use Rattle.layout.specs.File.{props, expected, prop_record, PropKind, constant, linked, quantified, atomic, strange, prop_kind}
 use Rattle.layout.specs.Form.{prop_shape}
@@ -30,41 +27,12 @@ use Rattle.table.specs.Reading.{parent, binders, settled, prop_at}
 use Rattle.table.specs.Nearest.{nearer, nearest, marked, Above, param_of, Vacant, Noted, ChildrenFit, ChildrenNoted}
 use Rattle.table.specs.Closed.{closed_params}
 use Rattle.table.specs.Tests.{open_goal, test_room}
-use Rattle.table.specs.Passing.{Counted, Formed, Linked, WellLinked}
+use Rattle.table.specs.Passing.{Counted, Formed, WellLinked}
 use Rattle.table.proofs.Sums.{hit_here, hit_later, hit_either, hit_not}
 use Rattle.layout.proofs.Strange.{Nots, past}
-use Rattle.table.proofs.Links.{directed, child_below, parent_above, expected_in}
+use Rattle.table.proofs.Links.{directed, child_below, parent_above}
 use Rattle.table.proofs.Reading.{nearest_child, nearest_root, binders_none, binders_at}
 use Rattle.table.proofs.Sizes.{closed_none, closed_one, closed_two}
-
--- THE EMPTY ROOM, word by word
-pub vacant_start : (w : List ℕ) → Vacant 0 w w
-vacant_start w = record { size = refl; each = λ m k. absurd (omega arith) }
-
-pub vacant_step : (n p : ℕ) (w v u : List ℕ) → Vacant n w v → 2 * p ≤ length w → n < p → u ≡ put_word v (2 * n) none → Vacant (n + 1) w u
-vacant_step n p w v u h k b e =
-    subst⁻¹ (Vacant (n + 1) w) e
-    record { size = length_word v (2 * n) none ∙ h.size; each = λ m x. at m (eq-or-lt_of_le {n = m} {m = n} (omega arith)) }
-  where
-    at : (m : ℕ) → (m ≡ n) ⊎ (m < n) → word_at (put_word v (2 * n) none) (2 * m) ≡ none
-    at m (inl q) = ap (λ i. word_at (put_word v (2 * n) none) (2 * i)) q ∙ word_same v (2 * n) none (omega (arith, h.size))
-    at m (inr x) = word_far v (2 * n) none (2 * m) (omega arith) (omega arith) (omega arith) ∙ h.each m x
-
-pub vacant_end : (n p : ℕ) (w v : List ℕ) → Vacant n w v → p ≤ n → Vacant p w v
-vacant_end n p w v h k = record { size = h.size; each = λ m x. h.each m (omega arith) }
-
--- ONE LINK, not used or used
-pub noted_not : (used : Bool) (m q : ℕ) (w : List ℕ) → used ≡ false → Noted used m q w w
-noted_not used m q w e = record { size = refl; here = λ t. absurd (let z : ◌≡◌ {A = ℕ} 0 1 = cc in omega arith); others = λ n d. refl }
-
-pub noted_put : (used : Bool) (m q : ℕ) (w v : List ℕ) → used ≡ true → (used ≡ true → 2 * m + 1 < length w) → v ≡ put_word w (2 * m) q → Noted used m q w v
-noted_put used m q w v t k e =
-    subst⁻¹ (Noted used m q w) e
-    record {
-      size = length_word w (2 * m) q;
-      here = λ _. word_same w (2 * m) q (k t);
-      others = λ n d. let x : n ≡ m → ⊥ = d t in word_far w (2 * m) q (2 * n) (omega arith) (omega arith) (omega arith);
-    }
 
 -- A RECORD'S CHILDREN: the body, or the left and the right one
 body_hit : (k : ℕ) (r : Record) → eqb k 1 ≡ true → 0 < hits r.c (prop_children k r)
@@ -156,10 +124,10 @@ module _ (r : Record) (s : PropShape) (shape : s ≡ prop_shape (prop_kind r.kin
 pub record Descent (l : List ℕ) (n : ℕ) (old w : List ℕ) : Type 0 where
   pub size : length w ≡ length old
   pub within : n ≤ props l
-  pub right : (m : ℕ) → m < props l → ((j : ℕ) → parent l m ≡ At j → n ≤ j) → word_at w (2 * m) ≡ marked (nearest l m)
+  pub right : (m : ℕ) → m < props l → ((j : ℕ) → parent l m ≡ Some j → n ≤ j) → word_at w (2 * m) ≡ marked (nearest l m)
 
 -- a kind with one child is a quantifier
-marked_nearer : (K : PropKind) (n : ℕ) (g : Guilty) → marked (nearer K n g) ≡ cond (eqb (prop_shape K).children 1) n (marked g)
+marked_nearer : (K : PropKind) (n : ℕ) (g : Option ℕ) → marked (nearer K n g) ≡ cond (eqb (prop_shape K).children 1) n (marked g)
 unfolding nearer prop_shape
 marked_nearer (constant b) n g = refl
 marked_nearer (linked h) n g = refl
@@ -171,14 +139,11 @@ module _ {l : List ℕ} (h : WellLinked l) where
   pub descent_start : (p : ℕ) (w v : List ℕ) → p ≡ props l → Vacant p w v → Descent l p v v
   descent_start p w v e empty = record { size = refl; within = omega arith; right = λ m k above. at m k above (parent l m) refl }
     where
-      at : (m : ℕ) → m < props l → ((j : ℕ) → parent l m ≡ At j → p ≤ j) → (u : Guilty) → parent l m ≡ u → word_at v (2 * m) ≡ marked (nearest l m)
-      at m k above (At j) d = absurd (omega (arith, above j d, (parent_above (directed h.linked) j m d).0))
-      at m k above Nobody d = empty.each m (omega arith) ∙ ap marked (sym (nearest_root (directed h.linked) m d))
+      at : (m : ℕ) → m < props l → ((j : ℕ) → parent l m ≡ Some j → p ≤ j) → (u : Option ℕ) → parent l m ≡ u → word_at v (2 * m) ≡ marked (nearest l m)
+      at m k above (Some j) d = absurd (omega (arith, above j d, (parent_above (directed h.linked) j m d).0))
+      at m k above None d = empty.each m (omega arith) ∙ ap marked (sym (nearest_root (directed h.linked) m d))
 
   module _ (n : ℕ) (old w : List ℕ) (d : Descent l n old w) where
-    pub descent_end : n ≤ 0 → Above l w
-    descent_end z m k = d.right m k (λ j e. omega arith)
-
     module _ (pos : 0 < n) (r : Record) (e : r ≡ prop_record l (n - 1)) where
       abbrev children : List ℕ
       children = prop_links (prop_record l (n - 1))
@@ -206,11 +171,11 @@ module _ {l : List ℕ} (h : WellLinked l) where
           own : word_at w (2 * (n - 1)) ≡ marked (nearest l (n - 1))
           own = d.right (n - 1) here (λ j q. omega (arith, (parent_above (directed h.linked) j (n - 1) q).2))
 
-          past : (m j : ℕ) → parent l m ≡ At j → 0 ≡ hits m children → (n - 1 ≡ j) ⊎ (n - 1 < j) → n ≤ j
+          past : (m j : ℕ) → parent l m ≡ Some j → 0 ≡ hits m children → (n - 1 ≡ j) ⊎ (n - 1 < j) → n ≤ j
           past m j q z (inl x) = absurd (omega (arith, (parent_above (directed h.linked) j m q).1, ap (λ i. hits m (prop_links (prop_record l i))) x))
           past m j q z (inr x) = omega arith
 
-          at : (m : ℕ) → m < props l → ((j : ℕ) → parent l m ≡ At j → n - 1 ≤ j) → (0 ≡ hits m children) ⊎ (0 < hits m children) → word_at v (2 * m) ≡ marked (nearest l m)
+          at : (m : ℕ) → m < props l → ((j : ℕ) → parent l m ≡ Some j → n - 1 ≤ j) → (0 ≡ hits m children) ⊎ (0 < hits m children) → word_at v (2 * m) ≡ marked (nearest l m)
           at m k above (inl z) = new.others m (sym z) ∙ d.right m k (λ j q. past m j q z (eq-or-lt_of_le (above j q)))
           at m k above (inr x) =
               new.child m x
@@ -231,11 +196,11 @@ module _ {l : List ℕ} (c : Counted l) (h : WellLinked l) (w : List ℕ) (above
   up : (n q : ℕ) → n < props l → q ≡ word_at w (2 * n) → (chain l q ≡ binders l n) × ((q ≡ none → ⊥) → (n < q) × (q < props l))
   up n q k e = at (nearest l n) refl
     where
-      at : (g : Guilty) → nearest l n ≡ g → (chain l q ≡ binders l n) × ((q ≡ none → ⊥) → (n < q) × (q < props l))
-      at Nobody d =
+      at : (g : Option ℕ) → nearest l n ≡ g → (chain l q ≡ binders l n) × ((q ≡ none → ⊥) → (n < q) × (q < props l))
+      at None d =
           let z : q ≡ none = e ∙ above n k ∙ ap marked d in
           (rw (eq-eqb q none z) (sym (binders_none (directed h.linked) n d)), λ x. absurd (x z))
-      at (At m) d =
+      at (Some m) d =
           let z : q ≡ m = e ∙ above n k ∙ ap marked d in
           let b = binders_at (directed h.linked) n m d in
           (rw (ne_eqb q none (omega (arith, c.propositions))) (ap (λ i. (prop_record l i).a ∷ binders l i) z ∙ sym b.2), λ x. (omega arith, omega arith))
@@ -276,44 +241,16 @@ module _ {l : List ℕ} (c : Counted l) (h : WellLinked l) (w : List ℕ) (above
               }
 
 -- TEST 7. One parameter, as it was settled
-pub free_found : (used : Bool) (x : ℕ) (o : Settled) (P : Param) → used ≡ true → o ≡ Free → param_of x o ≡ P → false ≡ not used || named_not P
+pub some_bound : (x : ℕ) (o : Option ℕ) (P : Param) → param_of x o ≡ P → is_some o ≡ named_not P
 unfolding named_not
-free_found used x o P t f e = let q : P ≡ free x = sym e ∙ ap (param_of x) f in rw (t, q)
+some_bound x None P e = rw (sym e)
+some_bound x (Some k) P e = rw (sym e)
 
-pub bound_found : (used : Bool) (x k : ℕ) (o : Settled) (P : Param) → used ≡ true → o ≡ Bound k → param_of x o ≡ P → true ≡ not used || named_not P
-unfolding named_not
-bound_found used x k o P t f e = let q : P ≡ bound k = sym e ∙ ap (param_of x) f in rw (t, q)
-
--- all four, of which the first k are used
-params_bound : (g : ℕ → Param) (k : ℕ) (xs : List ℕ) → length xs ≡ 4
-    → (not (ltb 0 k) || named_not (g (get_or xs 0 0)))
-    && ((not (ltb 1 k) || named_not (g (get_or xs 1 0))) && ((not (ltb 2 k) || named_not (g (get_or xs 2 0))) && (not (ltb 3 k) || named_not (g (get_or xs 3 0)))))
-    ≡ each_param named_not (map g (take k xs))
+-- all of them
+pub all_params : (t : Param → Bool) (g : ℕ → Param) (xs : List ℕ) → list_all (λ x. t (g x)) xs ≡ each_param t (map g xs)
 unfolding each_param
-params_bound g k [] h = absurd (omega arith)
-params_bound g k (a ∷ []) h = absurd (omega arith)
-params_bound g k (a ∷ b ∷ []) h = absurd (omega arith)
-params_bound g k (a ∷ b ∷ c ∷ []) h = absurd (omega arith)
-params_bound g k (a ∷ b ∷ c ∷ d ∷ e ∷ xs) h = absurd (omega arith)
-params_bound g zero (a ∷ b ∷ c ∷ d ∷ []) h = refl
-params_bound g (suc zero) (a ∷ b ∷ c ∷ d ∷ []) h = refl
-params_bound g (suc (suc zero)) (a ∷ b ∷ c ∷ d ∷ []) h = refl
-params_bound g (suc (suc (suc zero))) (a ∷ b ∷ c ∷ d ∷ []) h = refl
-params_bound g (suc (suc (suc (suc k)))) (a ∷ b ∷ c ∷ d ∷ []) h =
-    rw (lt-ltb 0 (suc (suc (suc (suc k)))) (omega arith), lt-ltb 1 (suc (suc (suc (suc k)))) (omega arith), lt-ltb 2 (suc (suc (suc (suc k)))) (omega arith), lt-ltb 3 (suc (suc (suc (suc k)))) (omega arith), rest k, and-true (named_not (g d)))
-  where
-    rest : (k : ℕ) → each_param named_not (map g (take k [])) ≡ true
-    rest zero = refl
-    rest (suc k) = refl
-
-pub all_params : (l : List ℕ) (n : ℕ) (r : Record) (b₀ b₁ b₂ b₃ : Bool) → length r.parameters ≡ 4
-    → b₀ ≡ not (ltb 0 r.count) || named_not (settled (get_or r.parameters 0 0) 0 (binders l n))
-    → b₁ ≡ not (ltb 1 r.count) || named_not (settled (get_or r.parameters 1 0) 0 (binders l n))
-    → b₂ ≡ not (ltb 2 r.count) || named_not (settled (get_or r.parameters 2 0) 0 (binders l n))
-    → b₃ ≡ not (ltb 3 r.count) || named_not (settled (get_or r.parameters 3 0) 0 (binders l n))
-    → b₀ && (b₁ && (b₂ && b₃)) ≡ closed_params l n r
-all_params l n r b₀ b₁ b₂ b₃ four e₀ e₁ e₂ e₃ =
-    (λ i. e₀ i && (e₁ i && (e₂ i && e₃ i))) ∙ params_bound (λ x. settled x 0 (binders l n)) r.count r.parameters four
+all_params t g [] = refl
+all_params t g (x ∷ xs) = ap (λ (b : Bool). t (g x) && b) (all_params t g xs)
 
 -- a record, from its children's answers
 module _ {l : List ℕ} (h : WellLinked l) (n : ℕ) (inside : n < props l) (r : Record) (e : r ≡ prop_record l n)
@@ -352,18 +289,15 @@ module _ {l : List ℕ} (h : WellLinked l) (n : ℕ) (inside : n < props l) (r :
 
 -- the whole test
 module _ (l : List ℕ) (p : Purpose) where
-  pub no_goal : p ≡ Filling → Nobody ≡ open_goal p l
+  pub no_goal : p ≡ Filling → None ≡ open_goal p l
   unfolding open_goal
   no_goal q = rw q
 
   module _ (q : p ≡ Check) (goal : ℕ) (e : goal ≡ expected l) where
-    pub goal_in : Linked p l → goal < props l
-    goal_in h = subst⁻¹ (λ i. i < props l) e (expected_in (subst (λ p. Linked p l) q h))
-
-    pub goal_shut : (b : Bool) → b ≡ closed (prop_at l goal) → b ≡ true → Nobody ≡ open_goal p l
+    pub goal_shut : (b : Bool) → b ≡ closed (prop_at l goal) → b ≡ true → None ≡ open_goal p l
     unfolding open_goal
     goal_shut b x t = let z : closed (prop_at l (expected l)) ≡ true = ap (λ i. closed (prop_at l i)) (sym e) ∙ sym x ∙ t in rw (q, z)
 
-    pub goal_open : (b : Bool) → b ≡ closed (prop_at l goal) → b ≡ false → At goal ≡ open_goal p l
+    pub goal_open : (b : Bool) → b ≡ closed (prop_at l goal) → b ≡ false → Some goal ≡ open_goal p l
     unfolding open_goal
     goal_open b x t = let z : closed (prop_at l (expected l)) ≡ false = ap (λ i. closed (prop_at l i)) (sym e) ∙ sym x ∙ t in rw (q, z, e)

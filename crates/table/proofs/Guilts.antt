@@ -1,4 +1,5 @@
 -- What the code of test 5 tests, record by record. Assumes nothing.
+use Rattle.std.specs.Prelude.{Option, Some}
 use mathlib.Core.Path.{◌≡◌, refl, ap, ap₂, sym, subst⁻¹, ◌∙◌}
 use mathlib.Core.Bool.{Bool, true, false, ◌&&◌, ◌||◌, not, cond}
 use mathlib.Core.List.{List, [], ◌∷◌}
@@ -12,8 +13,6 @@ use Rattle.numbers.specs.declared.record.Record.{Record}
 use Rattle.layout.specs.declared.record.TermRecord.{TermRecord}
 use Rattle.table.specs.declared.Purpose.{Purpose}
 use Rattle.numbers.specs.Records.{record_at}
-use Rattle.table.specs.declared.Guilty.{Guilty}
-use Rattle.table.specs.declared.Guilty.TheVariants.{At}
 use Rattle.layout.specs.File.{props, terms, as_term, term_record}
 use Rattle.table.specs.Naming.{NamesShown}
 use Rattle.table.specs.Tests.{or_term, badly_linked}
@@ -93,12 +92,12 @@ terms_guilt p l w s t h = term_guilt l t _ (get_or w (props l + t) 0) refl (s.te
 same_from : (t u : ℕ → Bool) (i k : ℕ) → ((j : ℕ) → j < i + k → t j ≡ u j) → first_from t i k ≡ first_from u i k
 unfolding first_from
 same_from t u i zero h = refl
-same_from t u i (suc k) h = ap₂ (λ (b : Bool) (g : Guilty). cond b (At i) g) (h i (omega arith)) (same_from t u (suc i) k (λ j q. h j (omega arith)))
+same_from t u i (suc k) h = ap₂ (λ (b : Bool) (g : Option ℕ). cond b (Some i) g) (h i (omega arith)) (same_from t u (suc i) k (λ j q. h j (omega arith)))
 
 pub first_same : (t u : ℕ → Bool) (n : ℕ) → ((j : ℕ) → j < n → t j ≡ u j) → first t n ≡ first u n
 first_same t u n h = same_from t u 0 n (λ j q. h j (omega arith))
 
-pub linked_answer : (p : Purpose) (l w : List ℕ) (P T : ℕ) (g h : Guilty) → NamesShown p l w → P ≡ props l → T ≡ terms l
+pub linked_answer : (p : Purpose) (l w : List ℕ) (P T : ℕ) (g h : Option ℕ) → NamesShown p l w → P ≡ props l → T ≡ terms l
     → g ≡ first (λ n. not (prop_links_ok l n && eqb (get_or w n 0) 1)) P
     → h ≡ first (λ t. not (term_links_ok l t && (eqb t 0 || eqb (get_or w (P + t) 0) 1))) T
     → or_term g P h ≡ badly_linked p l

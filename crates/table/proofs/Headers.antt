@@ -1,25 +1,19 @@
 -- What tests 2 and 3 say of a header. Assumes nothing.
-use mathlib.Core.Path.{◌≡◌, refl, sym, ◌∙◌}
-use mathlib.Core.Bool.{Bool, true, false, ◌&&◌, not}
+use Rattle.std.specs.Prelude.{Option, Some, None}
+use mathlib.Core.Path.{◌≡◌, refl, sym}
+use mathlib.Core.Bool.{Bool, true, false, ◌&&◌}
 use mathlib.Core.List.{List}
 use Prim.Native.Nat.{ℕ, ◌≤◌}
-use borrow.Author.Tests.{leb-true, eqb-true, not-false}
+use borrow.Author.Tests.{leb-true, eqb-true}
 use native.Mathlib.Omega.{arith}
 use lib.ListN.{length}
 use lib.Dec.{leb, eqb}
 use Rattle.numbers.specs.Limits.{most_propositions, most_terms}
-use Rattle.numbers.specs.Records.{word_at}
 use Rattle.layout.specs.File.{props, terms, file_size}
-use Rattle.table.specs.Tests.{mark, blank, header, counts, AtMost}
+use Rattle.table.specs.Tests.{header, counts, AtMost}
 use Rattle.table.specs.Passing.{Counted}
-use Rattle.table.specs.declared.Guilty.{Guilty}
-use Rattle.table.specs.declared.Guilty.TheVariants.{At, Nobody}
 use Rattle.table.specs.Reading.{first}
 use Rattle.table.proofs.Firsts.{first_at}
-
-pub header_long : (l : List ℕ) → leb 16 (length l) ≡ true → header l ≡ (mark l && (eqb (word_at l 4) 1 && blank l))
-unfolding header
-header_long l h = rw h
 
 -- both parts of a test that holds
 pub and_left : (a b : Bool) → (a && b) ≡ true → a ≡ true
@@ -30,10 +24,10 @@ pub and_right : (a b : Bool) → (a && b) ≡ true → b ≡ true
 and_right true b h = h
 and_right false b h = absurd (let z : ◌≡◌ {A = ℕ} 0 1 = cc in omega arith)
 
--- as the code asks test 2
-pub header_length : (l : List ℕ) (ok : Bool) → ok ≡ header l → not ok ≡ false → 16 ≤ length l
+-- test 2 holds of a header at least
+pub header_length : (l : List ℕ) → header l ≡ true → 16 ≤ length l
 unfolding header
-header_length l ok told z = leb-true 16 (length l) (and_left _ _ (sym told ∙ not-false ok z))
+header_length l h = leb-true 16 (length l) (and_left _ _ h)
 
 pub counted : (l : List ℕ) → counts l ≡ true → Counted l
 unfolding counts
@@ -52,6 +46,6 @@ counted l h =
     }
 
 -- a search among n numbers finds one within n
-pub first_most : (t : ℕ → Bool) (n k : ℕ) (g : Guilty) → g ≡ first t n → n ≤ k → AtMost k g
-first_most t n k (At i) e h = omega (arith, (first_at t n i (sym e)).0)
-first_most t n k Nobody e h = tt
+pub first_most : (t : ℕ → Bool) (n k : ℕ) (g : Option ℕ) → g ≡ first t n → n ≤ k → AtMost k g
+first_most t n k (Some i) e h = omega (arith, (first_at t n i (sym e)).0)
+first_most t n k None e h = tt

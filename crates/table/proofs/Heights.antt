@@ -83,11 +83,8 @@ module _ (r : Record) (w : List ℕ) (s : PropShape) (e : s ≡ prop_shape (prop
   pub body_height : s.children ≡ 1 → get_or w r.c 0 + 1 ≡ height_of r w
   body_height q = omega (arith, over_one _ r w (sym many ∙ q))
 
-  pub left_height : 2 ≤ s.children → get_or w r.b 0 < get_or w r.a 0 → get_or w r.a 0 + 1 ≡ height_of r w
-  left_height q h = omega (arith, over_two _ r w (both_many q))
-
-  pub right_height : 2 ≤ s.children → get_or w r.a 0 ≤ get_or w r.b 0 → get_or w r.b 0 + 1 ≡ height_of r w
-  right_height q h = omega (arith, over_two _ r w (both_many q))
+  pub two_height : 2 ≤ s.children → (m : ℕ) → m ≡ max (get_or w r.a 0) (get_or w r.b 0) → m + 1 ≡ height_of r w
+  two_height q m h = omega (arith, over_two _ r w (both_many q))
 
 -- HEIGHTS of the records below n, each within the limit
 abbrev pub Heights : List ℕ → List ℕ → ℕ → Type 0
@@ -133,11 +130,7 @@ pub not_high : (l : List ℕ) (n x : ℕ) → x ≡ height (prop_at l n) → x �
 unfolding too_high
 not_high l n x e h = le-ltb most_height (height (prop_at l n)) (omega arith)
 
--- A DEPTH FOR EACH CHILD, one after another: a link is not used, or is written
-pub deepened_none : (m d : ℕ) (u : Bool) (w : List ℕ) → u ≡ false → Deepened (used_hits u m) d w w
-deepened_none m d u w e =
-    subst⁻¹ (λ (v : Bool). Deepened (used_hits v m) d w w) e record { size = refl; here = λ t h. absurd (omega arith); others = λ t h. refl }
-
+-- A DEPTH FOR EACH CHILD, one after another
 pub used_within : (m : ℕ) (u : Bool) (w : List ℕ) → Within (used_hits u m) w → u ≡ true → m < length w
 used_within m u w h e = h m (subst⁻¹ (λ (v : Bool). 0 < used_hits v m m) e (hit_here m []))
 

@@ -1,5 +1,6 @@
 -- What test 5 gives: where children stand, that each record is named once, and by whom.
 -- Assumes nothing.
+use Rattle.std.specs.Prelude.{Option, Some, None}
 use mathlib.Core.Path.{◌≡◌, refl, sym}
 use mathlib.Core.Bool.{Bool, true, false, ◌&&◌, ◌||◌, not, and-eq-true_iff}
 use mathlib.Core.List.{List, []}
@@ -11,8 +12,6 @@ use lib.Dec.{eqb, ltb}
 use borrow.Author.Tests.{ltb-true, ltb-false, lt-ltb, le-ltb, eqb-true, ne_eqb, not-false}
 use Rattle.table.specs.declared.Purpose.{Purpose}
 use Rattle.table.specs.declared.Purpose.TheVariants.{Check}
-use Rattle.table.specs.declared.Guilty.{Guilty}
-use Rattle.table.specs.declared.Guilty.TheVariants.{At, Nobody}
 use Rattle.layout.specs.File.{props, terms, expected, prop_record, term_record}
 use Rattle.table.specs.Links.{prop_links, term_links, annotation, prop_links_ok, term_links_ok, all_links, hits, sum, prop_named, term_named, badly_linked_prop, badly_linked_term}
 use Rattle.table.specs.Reading.{first, parent}
@@ -29,7 +28,7 @@ module _ (links : ℕ → List ℕ) (n m : ℕ) where
   abbrev named : ℕ
   named = sum (λ i. hits m (links i)) n
 
-  owner_only : named ≤ 1 → (i : ℕ) → i < n → 0 < hits m (links i) → first names n ≡ At i
+  owner_only : named ≤ 1 → (i : ℕ) → i < n → 0 < hits m (links i) → first names n ≡ Some i
   owner_only h i l k = first_only names n i l (lt-ltb 0 (hits m (links i)) k) only
     where
       only : (j : ℕ) → j < n → names j ≡ true → j ≡ i
@@ -43,18 +42,18 @@ module _ (links : ℕ → List ℕ) (n m : ℕ) where
           at true e x = absurd (omega (arith, sum_two (λ i. hits m (links i)) j i n (ltb-true j i e) l))
           at false e x = above (eq-or-lt_of_le (ltb-false j i e)) x
 
-  owner_none : named ≡ 0 → first names n ≡ Nobody
+  owner_none : named ≡ 0 → first names n ≡ None
   owner_none h = first_nobody names n (λ i l. le-ltb 0 (hits m (links i)) (omega (arith, sum_one (λ i. hits m (links i)) i n l)))
 
-  owner_at : (i : ℕ) → first names n ≡ At i → (i < n) × (0 < hits m (links i))
+  owner_at : (i : ℕ) → first names n ≡ Some i → (i < n) × (0 < hits m (links i))
   owner_at i e = let r = first_at names n i e in (r.0, ltb-true 0 (hits m (links i)) r.1)
 
-  owner_some : 0 < named → (i : ℕ) × (first names n ≡ At i)
+  owner_some : 0 < named → (i : ℕ) × (first names n ≡ Some i)
   owner_some h = at (first names n) refl
     where
-      at : (g : Guilty) → first names n ≡ g → (i : ℕ) × (first names n ≡ At i)
-      at (At i) e = (i, e)
-      at Nobody e =
+      at : (g : Option ℕ) → first names n ≡ g → (i : ℕ) × (first names n ≡ Some i)
+      at (Some i) e = (i, e)
+      at None e =
           let r = sum_some (λ i. hits m (links i)) n h in
           absurd (omega (arith, ltb-false 0 (hits m (links r.0)) (first_clear names n e r.0 r.1), r.2))
 
@@ -99,11 +98,11 @@ module _ {l : List ℕ} (d : Directed l) where
       none s k (inl e) = sym e
       none s k (inr x) = absurd (omega (arith, (term_child s 0 k x).0))
 
-  pub parent_above : (n m : ℕ) → parent l m ≡ At n → (n < props l) × (0 < hits m (prop_links (prop_record l n))) × (m < n)
+  pub parent_above : (n m : ℕ) → parent l m ≡ Some n → (n < props l) × (0 < hits m (prop_links (prop_record l n))) × (m < n)
   unfolding parent
   parent_above n m e = let r = owner_at (λ i. prop_links (prop_record l i)) (props l) m n e in (r.0, r.1, child_below n m r.0 r.1)
 
-  pub holder_above : (t c : ℕ) → holder l c ≡ At t → (t < terms l) × (0 < hits c (term_links (term_record l t))) × (t < c)
+  pub holder_above : (t c : ℕ) → holder l c ≡ Some t → (t < terms l) × (0 < hits c (term_links (term_record l t))) × (t < c)
   unfolding holder
   holder_above t c e = let r = owner_at (λ i. term_links (term_record l i)) (terms l) c t e in (r.0, r.1, (term_child t c r.0 r.1).0)
 
@@ -116,23 +115,23 @@ module _ {p : Purpose} {l : List ℕ} (h : Linked p l) where
   term_once t z k = eqb-true (term_named l t) 1 (rw (ne_eqb t 0 (omega arith)) at (term_ok h t k).1)
 
   -- BY WHOM: a child by its parent; the expected proposition and an annotation by no proposition
-  pub parent_child : (n m : ℕ) → n < props l → 0 < hits m (prop_links (prop_record l n)) → parent l m ≡ At n
+  pub parent_child : (n m : ℕ) → n < props l → 0 < hits m (prop_links (prop_record l n)) → parent l m ≡ Some n
   unfolding parent
   parent_child n m k x = owner_only (λ i. prop_links (prop_record l i)) (props l) m (omega (arith, prop_once m (omega (arith, child_below (directed h) n m k x)))) n k x
 
-  pub parent_annotation : (t m : ℕ) → t < terms l → 0 < hits m (annotation (term_record l t)) → parent l m ≡ Nobody
+  pub parent_annotation : (t m : ℕ) → t < terms l → 0 < hits m (annotation (term_record l t)) → parent l m ≡ None
   unfolding parent
   parent_annotation t m k x =
       owner_none (λ i. prop_links (prop_record l i)) (props l) m
       (omega (arith, prop_once m (annotation_in (directed h) t m k x), sum_one (λ t. hits m (annotation (term_record l t))) t (terms l) k))
 
-  pub holder_child : (t c : ℕ) → t < terms l → 0 < hits c (term_links (term_record l t)) → holder l c ≡ At t
+  pub holder_child : (t c : ℕ) → t < terms l → 0 < hits c (term_links (term_record l t)) → holder l c ≡ Some t
   unfolding holder
   holder_child t c k x =
       let r = term_child (directed h) t c k x in
       owner_only (λ i. term_links (term_record l i)) (terms l) c (omega (arith, term_once c (omega arith) r.1)) t k x
 
-  pub holder_some : (c : ℕ) → 0 < c → c < terms l → (t : ℕ) × (holder l c ≡ At t)
+  pub holder_some : (c : ℕ) → 0 < c → c < terms l → (t : ℕ) × (holder l c ≡ Some t)
   unfolding holder
   holder_some c z k = owner_some (λ i. term_links (term_record l i)) (terms l) c (omega (arith, term_once c z k))
 
@@ -140,7 +139,7 @@ module _ {p : Purpose} {l : List ℕ} (h : Linked p l) where
 pub expected_in : {l : List ℕ} → Linked Check l → expected l < props l
 expected_in {l} h = ltb-true (expected l) (props l) h.goal
 
-pub parent_goal : {l : List ℕ} → Linked Check l → parent l (expected l) ≡ Nobody
+pub parent_goal : {l : List ℕ} → Linked Check l → parent l (expected l) ≡ None
 unfolding parent
 parent_goal {l} h =
     owner_none (λ i. prop_links (prop_record l i)) (props l) (expected l) (omega (arith, prop_once h (expected l) (expected_in h), hit_here (expected l) []))

@@ -39,10 +39,7 @@ names_then {b} {n} {f} {g} {x} {y} {z} m k =
 pub names_three : {b n : ℕ} {f g h : ℕ → ℕ} {w x y z : List ℕ} (s : ℕ → ℕ) → Names b n f w x → Names b n g x y → Names b n h y z → ((j : ℕ) → f j + (g j + h j) ≡ s j) → Names b n s w z
 names_three {b} {n} {f} {g} {h} s u v t e = names_same (names_then u (names_then v t)) e
 
--- ONE LINK: not used; past the last record; or a record's
-pub name_unused : (b n m : ℕ) (u : Bool) (l : List ℕ) → u ≡ false → Names b n (used_hits u m) l l
-name_unused b n m u l e = subst (λ (v : Bool). Names b n (used_hits v m) l l) (sym e) (names_none b n l)
-
+-- ONE LINK: past the last record, or a record's
 hit_other : (m j : ℕ) → (m ≡ j → ⊥) → hits j (m ∷ []) ≡ 0
 unfolding hits
 hit_other m j h = rw (ne_eqb m j h)

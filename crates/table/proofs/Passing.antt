@@ -1,5 +1,6 @@
 -- What a table that passes the tests gives the rules: propositions whose bound parameters have their quantifiers, and no serials; so a run on it may start, and is sound.
 -- Assumes nothing.
+use Rattle.std.specs.Prelude.{Option as Optional, Some, None, Result, ⊤, Ok}
 use mathlib.Core.Path.{◌≡◌, refl, subst}
 use mathlib.Core.Bool.{Bool, true, false, not, cond}
 use mathlib.Core.Option.{Option, none, some}
@@ -10,6 +11,7 @@ use lib.ListN.{length, take}
 use lib.Dec.{T, eqb, lt→ltb}
 use borrow.Author.Tests.{ltb-false, not-false}
 use Rattle.numbers.specs.Limits.{most_height, most_depth}
+use Rattle.numbers.specs.declared.refusal.Refusal.{Refusal}
 use Rattle.numbers.specs.declared.record.Record.{Record}
 use Rattle.rules.specs.Prop.{bound, Prop, Ty, prop, datatype, each_param, each, older, older_ty, closed}
 use Rattle.rules.specs.Term.{Single, Term, leaf, single, double, triple, sorry, Annotation, Annotations}
@@ -23,10 +25,6 @@ use Rattle.rules.proofs.Sound.{scripts_hold}
 use Rattle.rules.proofs.Older.{both}
 use Rattle.table.specs.declared.Purpose.{Purpose}
 use Rattle.table.specs.declared.Purpose.TheVariants.{Check}
-use Rattle.table.specs.declared.Guilty.{Guilty}
-use Rattle.table.specs.declared.Guilty.TheVariants.{At, Nobody}
-use Rattle.table.specs.declared.Verdict.{Verdict}
-use Rattle.table.specs.declared.Verdict.TheVariants.{Passes}
 use Rattle.layout.specs.File.{props, terms, expected, prop_record, term_record, PropKind, constant, linked as linking, quantified, atomic, strange, prop_kind}
 use Rattle.layout.specs.Form.{prop_shape, prop_form, term_form}
 use Rattle.table.specs.Links.{prop_children, prop_links, term_links, annotation_links, annotation, hits, expected_ok, badly_linked_prop, badly_linked_term}
@@ -39,10 +37,10 @@ use Rattle.table.proofs.Sums.{hit_here, hit_later}
 use Rattle.table.proofs.Links.{directed, prop_induction, term_induction, parent_annotation, annotation_in, expected_in, parent_goal}
 use Rattle.table.proofs.Reading.{prop_step, binders_child, binders_root, View, view_leaf, view_single, view_double, view_triple, view_gap, term_view}
 use Rattle.table.proofs.Sizes.{depth_root, depth_child}
-use Rattle.table.proofs.Headers.{counted}
+use Rattle.table.proofs.Headers.{header_length, counted}
 
 -- A TEST that finds nobody
-pub formed : (l : List ℕ) → formless l ≡ Nobody → Formed l
+pub formed : (l : List ℕ) → formless l ≡ None → Formed l
 unfolding formless
 formed l e =
     let r = or_nobody (first (λ n. not (prop_form (prop_record l n))) (props l)) (first (λ t. not (term_form (term_record l t))) (terms l)) (props l) e in
@@ -51,13 +49,13 @@ formed l e =
       term = λ t k. not-false (term_form (term_record l t)) (first_clear (λ t. not (term_form (term_record l t))) (terms l) r.1 t k);
     }
 
-pub linked : (p : Purpose) (l : List ℕ) → expected_ok p l ≡ true → badly_linked p l ≡ Nobody → Linked p l
+pub linked : (p : Purpose) (l : List ℕ) → expected_ok p l ≡ true → badly_linked p l ≡ None → Linked p l
 unfolding badly_linked
 linked p l g e =
     let r = or_nobody (first (badly_linked_prop p l) (props l)) (first (badly_linked_term l) (terms l)) (props l) e in
     record { goal = g; prop = first_clear (badly_linked_prop p l) (props l) r.0; term = first_clear (badly_linked_term l) (terms l) r.1 }
 
-pub sized : (l : List ℕ) → oversized l ≡ Nobody → Sized l
+pub sized : (l : List ℕ) → oversized l ≡ None → Sized l
 unfolding oversized too_high too_deep
 sized l e =
     let r = or_nobody (first (too_high l) (props l)) (first (too_deep l) (terms l)) (props l) e in
@@ -66,6 +64,15 @@ sized l e =
       term = λ t k. ltb-false most_depth (depth l t) (first_clear (too_deep l) (terms l) r.1 t k);
     }
 
+-- THE CHAIN in one line
+pub in_order : (p : Purpose) (l : List ℕ)
+    → tests p l ≡ unless (header l) 2 (unless (counts l) 3 (accused 4 (formless l) (unless (expected_ok p l) 5 (accused 5 (badly_linked p l) (accused 6 (oversized l) (accused 7 (open_goal p l) (Ok tt)))))))
+unfolding tests from_counts from_forms from_expected from_links from_sizes from_goal
+in_order p l = refl
+
+-- what the code of the tests leans on
+pub ruleset in_turn = (in_order, header_length, counted, formed, linked)
+
 -- ALL TESTS
 pub record Passed (p : Purpose) (l : List ℕ) : Type 0 where
   pub marked : header l ≡ true
@@ -73,17 +80,17 @@ pub record Passed (p : Purpose) (l : List ℕ) : Type 0 where
   pub formed : Formed l
   pub linked : Linked p l
   pub sized : Sized l
-  pub shut : open_goal p l ≡ Nobody
+  pub shut : open_goal p l ≡ None
 
-unless_passes : (ok : Bool) (k : ℕ) (rest : Verdict) → unless ok k rest ≡ Passes → (ok ≡ true) × (rest ≡ Passes)
+unless_passes : (ok : Bool) (k : ℕ) (rest : Result ⊤ Refusal) → unless ok k rest ≡ Ok tt → (ok ≡ true) × (rest ≡ Ok tt)
 unfolding unless
 unless_passes true k rest e = (refl, e)
 unless_passes false k rest e = absurd (let z : ◌≡◌ {A = ℕ} 0 1 = cc in omega arith)
 
-accused_passes : (k : ℕ) (g : Guilty) (rest : Verdict) → accused k g rest ≡ Passes → (g ≡ Nobody) × (rest ≡ Passes)
+accused_passes : (k : ℕ) (g : Optional ℕ) (rest : Result ⊤ Refusal) → accused k g rest ≡ Ok tt → (g ≡ None) × (rest ≡ Ok tt)
 unfolding accused
-accused_passes k (At i) rest e = absurd (let z : ◌≡◌ {A = ℕ} 0 1 = cc in omega arith)
-accused_passes k Nobody rest e = (refl, e)
+accused_passes k (Some i) rest e = absurd (let z : ◌≡◌ {A = ℕ} 0 1 = cc in omega arith)
+accused_passes k None rest e = (refl, e)
 
 pub good_passed : {p : Purpose} {l : List ℕ} → Good p l → Passed p l
 unfolding tests from_counts from_forms from_expected from_links from_sizes from_goal
@@ -101,7 +108,7 @@ pub good_closed : (l : List ℕ) → Good Check l → closed (prop_at l (expecte
 unfolding open_goal
 good_closed l e = at (closed (prop_at l (expected l))) (good_passed e).shut
   where
-    at : (b : Bool) → cond b Nobody (At (expected l)) ≡ Nobody → b ≡ true
+    at : (b : Bool) → cond b None (Some (expected l)) ≡ None → b ≡ true
     at true e = refl
     at false e = absurd (let z : ◌≡◌ {A = ℕ} 0 1 = cc in omega arith)
 
@@ -173,7 +180,7 @@ module _ {p : Purpose} {l : List ℕ} (h : Linked p l) where
           rw (prop_step (directed h) n k)
           (prop_of_within l n (prop_at l) (prop_kind (prop_record l n).kind) (prop_record l n) (λ m x. subst (λ ys. T (each within (length ys) (prop_at l m))) (binders_child h n m k x) (ih m x)))
 
-  pub prop_scoped : (n : ℕ) → n < props l → parent l n ≡ Nobody → T (scoped (prop (prop_at l n)))
+  pub prop_scoped : (n : ℕ) → n < props l → parent l n ≡ None → T (scoped (prop (prop_at l n)))
   unfolding scoped
   prop_scoped n k e = subst (λ ys. T (each within (length ys) (prop_at l n))) (binders_root (directed h) n e) (prop_within_binders n k)
 

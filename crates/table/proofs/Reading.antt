@@ -1,5 +1,6 @@
 -- What a table stands for, one record at a time: the children by the same reading, the quantifiers above by the parent's.
 -- Assumes nothing.
+use Rattle.std.specs.Prelude.{Option as Optional, Some, None}
 use mathlib.Core.Path.{◌≡◌, refl, ap, sym, ◌∙◌, subst, subst₂, subst⁻¹}
 use mathlib.Core.List.{List, [], ◌∷◌}
 use mathlib.Core.Option.{Option, none, some}
@@ -12,8 +13,6 @@ use Rattle.numbers.specs.declared.record.Record.{Record}
 use Rattle.rules.specs.Prop.{Prop, link, quant, table, Ty, prop, datatype}
 use Rattle.rules.specs.Term.{Leaf, Single, Double, Triple, Term, leaf, single, double, triple, sorry, place, Annotation}
 use Rattle.table.specs.declared.Purpose.{Purpose}
-use Rattle.table.specs.declared.Guilty.{Guilty}
-use Rattle.table.specs.declared.Guilty.TheVariants.{At, Nobody}
 use Rattle.layout.specs.declared.record.TermRecord.{TermRecord}
 use Rattle.layout.specs.declared.form.PropShape.{PropShape}
 use Rattle.layout.specs.declared.form.TermShape.{TermShape}
@@ -223,47 +222,47 @@ term_view {l} f d t k =
     (view_of l t (term_at l) (term_record l t) (kind_of (term_record l t).kind) (term_record l t).tag (term_record l t).typ r.0 r.1)
 
 -- UPWARDS. `up` leads from a record to the next above it, and a rank falls on the way. Then as many steps as the rank are enough
-module _ {X : Type 0} (up : ℕ → Guilty) (rank : ℕ → ℕ) (falls : (n m : ℕ) → up n ≡ At m → rank m < rank n)
+module _ {X : Type 0} (up : ℕ → Optional ℕ) (rank : ℕ → ℕ) (falls : (n m : ℕ) → up n ≡ Some m → rank m < rank n)
     (within : ℕ → ℕ → X) (stop : X) (on : ℕ → X → X) (start : (n : ℕ) → within 0 n ≡ stop)
-    (root : (f n : ℕ) → up n ≡ Nobody → within (suc f) n ≡ stop) (next : (f n m : ℕ) → up n ≡ At m → within (suc f) n ≡ on m (within f m)) where
-  pub climb_root : (f n : ℕ) → up n ≡ Nobody → within f n ≡ stop
+    (root : (f n : ℕ) → up n ≡ None → within (suc f) n ≡ stop) (next : (f n m : ℕ) → up n ≡ Some m → within (suc f) n ≡ on m (within f m)) where
+  pub climb_root : (f n : ℕ) → up n ≡ None → within f n ≡ stop
   climb_root zero n e = start n
   climb_root (suc f) n e = root f n e
 
-  lowest : (n : ℕ) → rank n ≤ 0 → up n ≡ Nobody
+  lowest : (n : ℕ) → rank n ≤ 0 → up n ≡ None
   lowest n a = at (up n) refl
     where
-      at : (u : Guilty) → up n ≡ u → up n ≡ Nobody
-      at (At m) e = absurd (omega (arith, falls n m e))
-      at Nobody e = e
+      at : (u : Optional ℕ) → up n ≡ u → up n ≡ None
+      at (Some m) e = absurd (omega (arith, falls n m e))
+      at None e = e
 
   pub climb_enough : (f g n : ℕ) → rank n ≤ f → rank n ≤ g → within f n ≡ within g n
   climb_enough zero g n a b = start n ∙ sym (climb_root g n (lowest n a))
   climb_enough (suc f) zero n a b = root f n (lowest n b) ∙ sym (start n)
   climb_enough (suc f) (suc g) n a b = at (up n) refl (λ m c. climb_enough f g m (omega arith) (omega arith))
     where
-      at : (u : Guilty) → up n ≡ u → ((m : ℕ) → rank m < rank n → within f m ≡ within g m) → within (suc f) n ≡ within (suc g) n
-      at (At m) e rest = next f n m e ∙ ap (on m) (rest m (falls n m e)) ∙ sym (next g n m e)
-      at Nobody e rest = root f n e ∙ sym (root g n e)
+      at : (u : Optional ℕ) → up n ≡ u → ((m : ℕ) → rank m < rank n → within f m ≡ within g m) → within (suc f) n ≡ within (suc g) n
+      at (Some m) e rest = next f n m e ∙ ap (on m) (rest m (falls n m e)) ∙ sym (next g n m e)
+      at None e rest = root f n e ∙ sym (root g n e)
 
-  pub climb_up : (f g n m : ℕ) → rank n ≤ f → rank m ≤ g → up n ≡ At m → within f n ≡ on m (within g m)
+  pub climb_up : (f g n m : ℕ) → rank n ≤ f → rank m ≤ g → up n ≡ Some m → within f n ≡ on m (within g m)
   climb_up f g n m a b e = climb_enough f (suc f) n a (omega arith) ∙ next f n m e ∙ ap (on m) (climb_enough f g m (omega (arith, falls n m e)) b)
 
 module _ {l : List ℕ} (d : Directed l) where
   abbrev kind_at : ℕ → PropKind
   kind_at n = prop_kind (prop_record l n).kind
 
-  rising : (n m : ℕ) → parent l n ≡ At m → props l - m < props l - n
+  rising : (n m : ℕ) → parent l n ≡ Some m → props l - m < props l - n
   rising n m e = let r = parent_above d m n e in omega arith
 
   -- the objects of the quantifiers above, from the parent's
-  binders_up : (n m : ℕ) → parent l m ≡ At n → binders l m ≡ object (kind_at n) (prop_record l n).a (binders l n)
+  binders_up : (n m : ℕ) → parent l m ≡ Some n → binders l m ≡ object (kind_at n) (prop_record l n).a (binders l n)
   unfolding binders binders_within above
   binders_up n m e =
       climb_up (parent l) (λ n. props l - n) rising (λ f n. binders_within f l n) [] (λ n xs. object (kind_at n) (prop_record l n).a xs)
       (λ n. refl) (λ f n e. rw e) (λ f n m e. rw e) (props l) (props l) m n (omega arith) (omega arith) e
 
-  pub binders_root : (n : ℕ) → parent l n ≡ Nobody → binders l n ≡ []
+  pub binders_root : (n : ℕ) → parent l n ≡ None → binders l n ≡ []
   unfolding binders binders_within above
   binders_root n e =
       climb_root (parent l) (λ n. props l - n) rising (λ f n. binders_within f l n) [] (λ n xs. object (kind_at n) (prop_record l n).a xs)
@@ -276,28 +275,28 @@ module _ {l : List ℕ} (d : Directed l) where
       (λ n. refl) (λ f n e. rw e) (λ f n m e. rw e) f (props l) n (omega arith) (omega arith)
 
   -- the nearest of them
-  nearest_up : (n m : ℕ) → parent l m ≡ At n → nearest l m ≡ nearer (kind_at n) n (nearest l n)
+  nearest_up : (n m : ℕ) → parent l m ≡ Some n → nearest l m ≡ nearer (kind_at n) n (nearest l n)
   unfolding nearest nearest_within nearest_above
   nearest_up n m e =
-      climb_up (parent l) (λ n. props l - n) rising (λ f n. nearest_within f l n) Nobody (λ n g. nearer (kind_at n) n g)
+      climb_up (parent l) (λ n. props l - n) rising (λ f n. nearest_within f l n) None (λ n g. nearer (kind_at n) n g)
       (λ n. refl) (λ f n e. rw e) (λ f n m e. rw e) (props l) (props l) m n (omega arith) (omega arith) e
 
-  pub nearest_root : (n : ℕ) → parent l n ≡ Nobody → nearest l n ≡ Nobody
+  pub nearest_root : (n : ℕ) → parent l n ≡ None → nearest l n ≡ None
   unfolding nearest nearest_within nearest_above
   nearest_root n e =
-      climb_root (parent l) (λ n. props l - n) rising (λ f n. nearest_within f l n) Nobody (λ n g. nearer (kind_at n) n g)
+      climb_root (parent l) (λ n. props l - n) rising (λ f n. nearest_within f l n) None (λ n g. nearer (kind_at n) n g)
       (λ n. refl) (λ f n e. rw e) (λ f n m e. rw e) (props l) n e
 
   -- with them all
-  abbrev Nearest : ℕ → Guilty → List ℕ → Type 0
-  Nearest n (At q) xs = (n < q) × (q < props l) × (xs ≡ (prop_record l q).a ∷ binders l q)
-  Nearest n Nobody xs = xs ≡ []
+  abbrev Nearest : ℕ → Optional ℕ → List ℕ → Type 0
+  Nearest n (Some q) xs = (n < q) × (q < props l) × (xs ≡ (prop_record l q).a ∷ binders l q)
+  Nearest n None xs = xs ≡ []
 
-  farther : (n m : ℕ) (g : Guilty) (xs : List ℕ) → n < m → Nearest m g xs → Nearest n g xs
-  farther n m (At q) xs k e = (omega arith, e.1, e.2)
-  farther n m Nobody xs k e = e
+  farther : (n m : ℕ) (g : Optional ℕ) (xs : List ℕ) → n < m → Nearest m g xs → Nearest n g xs
+  farther n m (Some q) xs k e = (omega arith, e.1, e.2)
+  farther n m None xs k e = e
 
-  nearest_join : (K : PropKind) (n m : ℕ) (g : Guilty) → n < m → m < props l → Nearest m g (binders l m) → Nearest n (nearer K m g) (object K (prop_record l m).a (binders l m))
+  nearest_join : (K : PropKind) (n m : ℕ) (g : Optional ℕ) → n < m → m < props l → Nearest m g (binders l m) → Nearest n (nearer K m g) (object K (prop_record l m).a (binders l m))
   unfolding nearer object
   nearest_join (constant b) n m g k x e = farther n m g (binders l m) k e
   nearest_join (linked h) n m g k x e = farther n m g (binders l m) k e
@@ -305,27 +304,27 @@ module _ {l : List ℕ} (d : Directed l) where
   nearest_join atomic n m g k x e = farther n m g (binders l m) k e
   nearest_join strange n m g k x e = farther n m g (binders l m) k e
 
-  nearest_top : (n : ℕ) → parent l n ≡ Nobody → Nearest n (nearest l n) (binders l n)
+  nearest_top : (n : ℕ) → parent l n ≡ None → Nearest n (nearest l n) (binders l n)
   nearest_top n e = subst₂ (Nearest n) (sym (nearest_root n e)) (sym (binders_root n e)) refl
 
   binders_from : (f n : ℕ) → props l - n ≤ f → Nearest n (nearest l n) (binders l n)
   binders_from zero n a = at (parent l n) refl
     where
-      at : (u : Guilty) → parent l n ≡ u → Nearest n (nearest l n) (binders l n)
-      at (At m) e = absurd (omega (arith, rising n m e))
-      at Nobody e = nearest_top n e
+      at : (u : Optional ℕ) → parent l n ≡ u → Nearest n (nearest l n) (binders l n)
+      at (Some m) e = absurd (omega (arith, rising n m e))
+      at None e = nearest_top n e
   binders_from (suc f) n a = at (parent l n) refl (λ m c. binders_from f m (omega arith))
     where
-      at : (u : Guilty) → parent l n ≡ u → ((m : ℕ) → props l - m < props l - n → Nearest m (nearest l m) (binders l m)) → Nearest n (nearest l n) (binders l n)
-      at (At m) e rest =
+      at : (u : Optional ℕ) → parent l n ≡ u → ((m : ℕ) → props l - m < props l - n → Nearest m (nearest l m) (binders l m)) → Nearest n (nearest l n) (binders l n)
+      at (Some m) e rest =
           let r = parent_above d m n e in
           subst₂ (Nearest n) (sym (nearest_up m n e)) (sym (binders_up m n e)) (nearest_join (kind_at m) n m (nearest l m) r.2 r.0 (rest m (rising n m e)))
-      at Nobody e rest = nearest_top n e
+      at None e rest = nearest_top n e
 
-  pub binders_none : (n : ℕ) → nearest l n ≡ Nobody → binders l n ≡ []
+  pub binders_none : (n : ℕ) → nearest l n ≡ None → binders l n ≡ []
   binders_none n e = subst (λ g. Nearest n g (binders l n)) e (binders_from (props l) n (omega arith))
 
-  pub binders_at : (n q : ℕ) → nearest l n ≡ At q → (n < q) × (q < props l) × (binders l n ≡ (prop_record l q).a ∷ binders l q)
+  pub binders_at : (n q : ℕ) → nearest l n ≡ Some q → (n < q) × (q < props l) × (binders l n ≡ (prop_record l q).a ∷ binders l q)
   binders_at n q e = subst (λ g. Nearest n g (binders l n)) e (binders_from (props l) n (omega arith))
 
 -- from the parent's, where each record has one

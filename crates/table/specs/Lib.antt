@@ -7,3 +7,4 @@ pub mod Sizing
 pub mod Closed
 pub mod Tests
 pub mod Passing
+pub mod Scoped

@@ -1,9 +1,8 @@
 -- What a table gives that passed a test: the facts that the next tests, and everything above, may lean on.
 -- Assumes nothing.
-use Rattle.std.specs.Prelude.{◌≡◌, true, false, List, ℕ, ◌<◌, ◌≤◌, length}
+use Rattle.std.specs.Prelude.{◌≡◌, true, false, List, ℕ, ◌<◌, ◌≤◌, length, Ok}
 use Rattle.numbers.specs.Limits.{most_propositions, most_terms, most_height, most_depth}
 use Rattle.table.specs.declared.Purpose.{Purpose}
-use Rattle.table.specs.declared.Verdict.TheVariants.{Passes}
 use Rattle.layout.specs.File.{props, terms, file_size, prop_record, term_record}
 use Rattle.layout.specs.Form.{prop_form, term_form}
 use Rattle.table.specs.Links.{prop_links_ok, term_links_ok, expected_ok, badly_linked_prop, badly_linked_term}
@@ -46,4 +45,4 @@ pub record Sized (l : List ℕ) : Type 0 where
 
 -- all
 abbrev pub Good : Purpose → List ℕ → Type 0
-Good p l = tests p l ≡ Passes
+Good p l = tests p l ≡ Ok tt

@@ -1,12 +1,10 @@
 -- What a table's records stand for: a proposition and a term of the rules, read from any bytes.
 -- Assumes nothing.
-use Rattle.std.specs.Prelude.{Bool, false, cond, List, [], ◌∷◌, map, ℕ, zero, suc, take, eqb, ltb}
+use Rattle.std.specs.Prelude.{Bool, false, cond, List, [], ◌∷◌, map, ℕ, zero, suc, take, eqb, ltb, Option as Optional, Some, None}
 use Rattle.std.proofs.Math.Option.{Option, none, some}
 use Rattle.numbers.specs.declared.record.Record.{Record}
 use Rattle.rules.specs.Prop.{Param, free, bound, Prop, const, link, quant, atom, table, Ty, prop, datatype}
 use Rattle.rules.specs.Term.{Leaf, Single, Double, Triple, Term, leaf, single, double, triple, sorry}
-use Rattle.table.specs.declared.Guilty.{Guilty}
-use Rattle.table.specs.declared.Guilty.TheVariants.{At, Nobody}
 use Rattle.layout.specs.declared.record.TermRecord.{TermRecord}
 use Rattle.layout.specs.File.{props, terms, prop_record, term_record, PropKind, constant, linked, quantified, atomic, strange, prop_kind}
 use Rattle.layout.specs.File.{Kind, Ident, Pair, ProjectFst, ProjectSnd, Function, Application, LetIn}
@@ -14,15 +12,15 @@ use Rattle.layout.specs.File.{OrLeft, OrRight, Case, Abort, TheUnit, TypeAscript
 use Rattle.table.specs.Links.{prop_links, hits}
 
 -- the lowest of i, i + 1, .. (k numbers) that passes the test
-unfoldable pub first_from : (ℕ → Bool) → ℕ → ℕ → Guilty
-first_from t i zero = Nobody
-first_from t i (suc k) = cond (t i) (At i) (first_from t (suc i) k)
+unfoldable pub first_from : (ℕ → Bool) → ℕ → ℕ → Optional ℕ
+first_from t i zero = None
+first_from t i (suc k) = cond (t i) (Some i) (first_from t (suc i) k)
 
-abbrev pub first : (ℕ → Bool) → ℕ → Guilty
+abbrev pub first : (ℕ → Bool) → ℕ → Optional ℕ
 first t n = first_from t 0 n
 
 -- BOUND NAMES. The proposition of which record n is a child
-unfoldable pub parent : List ℕ → ℕ → Guilty
+unfoldable pub parent : List ℕ → ℕ → Optional ℕ
 parent l n = first (λ p. ltb 0 (hits n (prop_links (prop_record l p)))) (props l)
 
 -- the object names of the quantifiers above record n, the nearest first
@@ -33,9 +31,9 @@ object (quantified q) x xs = x ∷ xs
 object atomic x xs = xs
 object strange x xs = xs
 
-unfoldable pub above : List ℕ → Guilty → (ℕ → List ℕ) → List ℕ
-above l Nobody up = []
-above l (At p) up = object (prop_kind (prop_record l p).kind) (prop_record l p).a (up p)
+unfoldable pub above : List ℕ → Optional ℕ → (ℕ → List ℕ) → List ℕ
+above l None up = []
+above l (Some p) up = object (prop_kind (prop_record l p).kind) (prop_record l p).a (up p)
 
 unfoldable pub binders_within : ℕ → List ℕ → ℕ → List ℕ
 binders_within zero l n = []

@@ -1,10 +1,8 @@
 -- Document 01, refusal 6: how high a proposition is and how deep a term stands, a single node counting 1.
 -- Assumes nothing.
-use Rattle.std.specs.Prelude.{Bool, List, ℕ, zero, suc, max, ltb}
+use Rattle.std.specs.Prelude.{Bool, List, ℕ, zero, suc, max, ltb, Option, Some, None}
 use Rattle.numbers.specs.Limits.{most_height, most_depth}
 use Rattle.rules.specs.Prop.{Prop, const, link, quant, atom}
-use Rattle.table.specs.declared.Guilty.{Guilty}
-use Rattle.table.specs.declared.Guilty.TheVariants.{At, Nobody}
 use Rattle.layout.specs.File.{terms, term_record}
 use Rattle.table.specs.Links.{term_links, hits}
 use Rattle.table.specs.Reading.{first, prop_at}
@@ -19,13 +17,13 @@ unfoldable pub too_high : List ℕ → ℕ → Bool
 too_high l n = ltb most_height (height (prop_at l n))
 
 -- the term of which term t is a child
-unfoldable pub holder : List ℕ → ℕ → Guilty
+unfoldable pub holder : List ℕ → ℕ → Option ℕ
 holder l t = first (λ s. ltb 0 (hits t (term_links (term_record l s)))) (terms l)
 
 -- one more than its holder's; a term that nobody holds is a root
-unfoldable pub below : Guilty → (ℕ → ℕ) → ℕ
-below Nobody up = 1
-below (At s) up = suc (up s)
+unfoldable pub below : Option ℕ → (ℕ → ℕ) → ℕ
+below None up = 1
+below (Some s) up = suc (up s)
 
 unfoldable pub depth_within : ℕ → List ℕ → ℕ → ℕ
 depth_within zero l t = 1

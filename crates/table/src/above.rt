@@ -1,9 +1,10 @@
 // Bound names: the nearest quantifier above each proposition, two bytes of the work room for each, and a name looked up along them.
-ghost use Rattle.std.specs.Prelude.{◌≡◌, true, ◌+◌, ◌*◌, ◌<◌, ◌≤◌, length};
+ghost use Rattle.std.specs.Prelude.{◌≡◌, true, List, ℕ, ◌+◌, ◌*◌, ◌<◌, ◌≤◌, length};
 ghost use Rattle.table.specs.Tests.{test_room};
-ghost use Rattle.layout.specs.File.{props};
+ghost use Rattle.layout.specs.File.{props, prop_record};
 ghost use Rattle.table.specs.Reading.{binders, settled};
 ghost use Rattle.table.specs.Nearest.{Above, ChildrenFit, ChildrenNoted, Noted, Vacant, param_of};
+ghost use Rattle.table.specs.Scoped.{Scoped};
 ghost use Rattle.table.specs.Passing.{Counted, WellLinked};
 
 use layout::form::prop_shape;
@@ -11,23 +12,15 @@ use layout::header::proposition_count;
 use layout::record::proposition_at;
 use numbers::record::{Record, put_word, word};
 use numbers::{Name, Proposition};
-
-// What a name in the file is: free, or bound with so many quantifiers between it and its own.
-#[derive(Clone, Copy)]
-pub enum Settled {
-    Free,
-    Bound(u16),
-}
+use std::marker::Model;
 
 // No proposition has a quantifier above it yet.
 fn empty(work: &mut [u8], p: u16)
     requires { 2 * p ≤ length work.old }
     ensures { Vacant p work.old work.new }
 {
-    let mut n: u16 = 0;
-    while n < p {
+    for n in 0..p {
         put_word(work, 2 * (n as usize), Proposition::NONE.0);
-        n += 1;
     }
 }
 
@@ -62,31 +55,75 @@ pub fn find_above(file: &[u8], work: &mut [u8])
 {
     let p = proposition_count(file);
     empty(work, p);
-    let mut n = p;
-    while 0 < n {
-        n -= 1;
+    for n in (0..p).rev() {
         let r = proposition_at(file, Proposition(n));
         note_children(work, r, n);
     }
 }
 
-// The name x in record n.
-pub fn settle(file: &[u8], work: &[u8], n: Proposition, x: Name) -> Settled
+// The name x in record n: how many quantifiers stand between it and its own, or None where it is free.
+pub fn settle(file: &[u8], work: &[u8], n: Proposition, x: Name) -> Option<u16>
     requires counted { Counted file.now }
     requires well_linked { WellLinked file.now }
     requires above { Above file.now work.now }
     requires n_bound { (n.0 < props file.now) × (test_room ≤ length work.now) }
     ensures { param_of x.0 result ≡ settled x.0 0 (binders file.now n.0) }
 {
+    // It follows links up, each to a larger number: no range or slice lists these for a `for`.
     let mut k: u16 = 0;
     let mut q = word(work, 2 * (n.0 as usize));
     while q != Proposition::NONE.0 {
         let r = proposition_at(file, Proposition(q));
         if r.a == x.0 {
-            return Settled::Bound(k);
+            return Some(k);
         }
         k += 1;
         q = word(work, 2 * (q as usize));
     }
-    Settled::Free
+    None
+}
+
+// A table that passed test 5, and the work room with the nearest quantifier above each of its propositions: here a name can be looked
+// up. Contracts see the file.
+#[derive(Drop)]
+pub struct Scopes<'a> {
+    pub file: &'a [u8],
+    pub above: &'a [u8],
+}
+
+impl<'a> Model for Scopes<'a> {
+    ghost Value = { List ℕ };
+
+    ghost view = { λ s. s.file.now };
+
+    ghost invariant = { λ s. Scoped s.file.now s.above.now };
+}
+
+impl<'a> Scopes<'a> {
+    // In a work room of any contents.
+    pub fn of(file: &'a [u8], work: &'a mut [u8]) -> Self
+        requires counted { Counted file.now }
+        requires well_linked { WellLinked file.now }
+        requires test_room_in_bounds { test_room ≤ length work.old }
+        ensures { result ≡ file.now }
+    {
+        find_above(file, work);
+        Scopes { file, above: work }
+    }
+
+    pub fn proposition(&self, n: Proposition) -> Record
+        requires { n.0 < props self.now }
+        ensures is { result ≡ prop_record self.now n.0 }
+        ensures well_linked { WellLinked self.now }
+    {
+        proposition_at(self.file, n)
+    }
+
+    // The name x in record n, as the function above.
+    pub fn settle(&self, n: Proposition, x: Name) -> Option<u16>
+        requires { n.0 < props self.now }
+        ensures { param_of x.0 result ≡ settled x.0 0 (binders self.now n.0) }
+    {
+        settle(self.file, self.above, n, x)
+    }
 }

@@ -7,14 +7,14 @@ ghost use Rattle.table.specs.Reading.{first};
 ghost use Rattle.table.specs.Tests.{AtMost, or_term, formless};
 ghost use Rattle.table.specs.Passing.{Counted};
 
-use super::Guilty;
+use super::search::first;
 use layout::form::{prop_shape, term_shape};
 use layout::header::{proposition_count, term_count};
 use layout::record::{TermRecord, proposition_at, term_at};
 use numbers::record::Record;
 use numbers::{Proposition, Term};
 
-// A field that is not used is zero.
+// A field that is not used is zero. (A flag beside the field: an Option would be made only to be taken apart at once.)
 fn fits(used: bool, x: u16) -> bool
     ensures { result ≡ fits used x }
 {
@@ -26,11 +26,9 @@ fn prop_form(r: Record) -> bool
 {
     let s = prop_shape(r.kind);
     let n = r.count;
-    let fields = fits(0 < s.fields, r.a) & (fits(1 < s.fields, r.b) & fits(2 < s.fields, r.c));
-    let parameters = fits(0 < n, r.parameters[0])
-        & (fits(1 < n, r.parameters[1])
-            & (fits(2 < n, r.parameters[2]) & fits(3 < n, r.parameters[3])));
-    ((s.least <= n) & (n <= s.most)) & (fields & parameters)
+    let fields = fits(0 < s.fields, r.a) & fits(1 < s.fields, r.b) & fits(2 < s.fields, r.c);
+    let rest = r.parameters.iter().skip(usize::from(n)).all(|x| *x == 0);
+    (s.least <= n) & (n <= s.most) & fields & rest
 }
 
 fn term_form(r: TermRecord) -> bool
@@ -38,60 +36,40 @@ fn term_form(r: TermRecord) -> bool
 {
     let s = term_shape(r.kind);
     let n = r.tag;
-    let tagged = (s.least <= n) & ((n <= s.most) & fits(0 < n, r.typ));
+    let tagged = (s.least <= n) & (n <= s.most) & fits(0 < n, r.typ);
     let named = fits(0 < s.names, r.name1.0) & fits(1 < s.names, r.name2.0);
     let linked = fits(0 < s.children, r.child1.0)
-        & (fits(1 < s.children, r.child2.0) & (fits(2 < s.children, r.child3.0) & (r.zero == 0)));
-    tagged & (named & linked)
+        & fits(1 < s.children, r.child2.0)
+        & fits(2 < s.children, r.child3.0)
+        & (r.zero == 0);
+    tagged & named & linked
 }
 
-fn formless_proposition(file: &[u8], p: u16) -> Guilty
+fn formless_proposition(file: &[u8], p: u16) -> Option<u16>
     requires { file_size p 0 ≤ length file.now }
     ensures { result ≡ first (λ n. not (prop_form (prop_record file.now n))) p }
 {
-    let mut n: u16 = 0;
-    while n < p {
-        let r = proposition_at(file, Proposition(n));
-        if !prop_form(r) {
-            return Guilty::At(n);
-        }
-        n += 1;
-    }
-    Guilty::Nobody
+    first(p, |n| !prop_form(proposition_at(file, Proposition(n))))
 }
 
-fn formless_term(file: &[u8], p: u16, count: u16) -> Guilty
+fn formless_term(file: &[u8], p: u16, count: u16) -> Option<u16>
     requires { (p ≡ props file.now) × (file_size p count ≤ length file.now) }
     ensures { result ≡ first (λ t. not (term_form (term_record file.now t))) count }
 {
-    let mut t: u16 = 0;
-    while t < count {
-        let r = term_at(file, p, Term(t));
-        if !term_form(r) {
-            return Guilty::At(t);
-        }
-        t += 1;
-    }
-    Guilty::Nobody
+    first(count, |t| !term_form(term_at(file, p, Term(t))))
 }
 
 // The lowest guilty record: a proposition, or else a term, whose place counts the p propositions before it.
-pub fn or_term(g: Guilty, p: u16, h: Guilty) -> Guilty
+pub fn or_term(g: Option<u16>, p: u16, h: Option<u16>) -> Option<u16>
     requires p_le_most_propositions { p ≤ most_propositions }
     requires at_most { AtMost most_terms h }
     ensures { result ≡ or_term g p h }
 {
-    match g {
-        Guilty::At(n) => Guilty::At(n),
-        Guilty::Nobody => match h {
-            Guilty::At(t) => Guilty::At(p + t),
-            Guilty::Nobody => Guilty::Nobody,
-        },
-    }
+    g.or(h.map(|t| p + t))
 }
 
-// Test 4.
-pub fn formless(file: &[u8]) -> Guilty
+// Test 4: the place of the lowest guilty record, None where there is none.
+pub fn formless(file: &[u8]) -> Option<u16>
     requires { Counted file.now }
     ensures { result ≡ formless file.now }
 {

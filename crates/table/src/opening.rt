@@ -12,24 +12,22 @@ fn has_mark(file: &[u8]) -> bool
     requires { 16 ≤ length file.now }
     ensures { result ≡ mark file.now }
 {
-    (file[0] == b'N') & ((file[1] == b'D') & ((file[2] == b'T') & (file[3] == 0)))
+    (file[0] == b'N') & (file[1] == b'D') & (file[2] == b'T') & (file[3] == 0)
 }
 
 fn has_blank(file: &[u8]) -> bool
     requires { 16 ≤ length file.now }
     ensures { result ≡ blank file.now }
 {
-    (file[12] == 0) & ((file[13] == 0) & ((file[14] == 0) & (file[15] == 0)))
+    (file[12] == 0) & (file[13] == 0) & (file[14] == 0) & (file[15] == 0)
 }
 
 // Test 2.
+#[tactic(auto, unfolding(crate::specs::Tests::header))]
 pub fn well_marked(file: &[u8]) -> bool
     ensures { result ≡ header file.now }
 {
-    if file.len() < 16 {
-        return false;
-    }
-    has_mark(file) & ((word(file, 4) == 1) & has_blank(file))
+    file.len() >= 16 && has_mark(file) && word(file, 4) == 1 && has_blank(file)
 }
 
 // Test 3.
@@ -39,7 +37,7 @@ pub fn well_counted(file: &[u8]) -> bool
 {
     let p = proposition_count(file);
     let t = term_count(file);
-    ((p <= Proposition::LIMIT) & ((1 <= t) & (t <= Term::LIMIT))) & (file.len() == file_size(p, t))
+    (p <= Proposition::LIMIT) & (1 <= t) & (t <= Term::LIMIT) & (file.len() == file_size(p, t))
 }
 
 // Test 5's expected field: a check has one, a filling has none.
@@ -50,6 +48,6 @@ pub fn well_aimed(file: &[u8], purpose: Purpose) -> bool
     let e = expected_field(file);
     match purpose {
         Purpose::Check => e.0 < proposition_count(file),
-        Purpose::Filling => e.0 == Proposition::NONE.0,
+        Purpose::Filling => e == Proposition::NONE,
     }
 }

@@ -9,7 +9,6 @@ ghost use Rattle.table.specs.Size.{too_high, too_deep};
 ghost use Rattle.table.specs.Sizing.{height_of, ChildrenHigh, Within, Deepened};
 ghost use Rattle.table.specs.Tests.{oversized, test_room};
 
-use super::Guilty;
 use super::forming::or_term;
 use layout::form::{prop_shape, term_shape};
 use layout::header::{proposition_count, term_count};
@@ -23,40 +22,31 @@ fn height_of(work: &[u8], r: Record) -> u8
     ensures { result ≡ height_of r work.now }
 {
     let s = prop_shape(r.kind);
-    let k = s.children;
-    match k {
+    match s.children {
         0 => 1,
-        1 => {
-            let i = r.c as usize;
-            work[i] + 1
-        }
-        2..=255 => {
-            let i = r.a as usize;
-            let j = r.b as usize;
-            let x = work[i];
-            let y = work[j];
-            if x <= y { y + 1 } else { x + 1 }
+        1 => work[r.c as usize] + 1,
+        _ => {
+            let x = work[r.a as usize];
+            let y = work[r.b as usize];
+            x.max(y) + 1
         }
     }
 }
 
-fn too_high(file: &[u8], work: &mut [u8], p: u16) -> Guilty
+fn too_high(file: &[u8], work: &mut [u8], p: u16) -> Option<u16>
     requires p_value { (p ≡ props file.now) × (file_size p 0 ≤ length file.now) × (p ≤ length work.old) }
     requires well_linked { WellLinked file.now }
     ensures { result ≡ first (too_high file.now) p }
 {
-    let mut n: u16 = 0;
-    while n < p {
+    for n in 0..p {
         let r = proposition_at(file, Proposition(n));
         let h = height_of(work, r);
         if Proposition::HEIGHT < h {
-            return Guilty::At(n);
+            return Some(n);
         }
-        let i = n as usize;
-        work[i] = h;
-        n += 1;
+        work[n as usize] = h;
     }
-    Guilty::Nobody
+    None
 }
 
 // The child, if it is used, stands at depth d.
@@ -65,8 +55,7 @@ fn set_depth(work: &mut [u8], used: bool, child: u16, d: u8)
     ensures { Deepened (used_hits used child) d work.old work.new }
 {
     if used {
-        let i = child as usize;
-        work[i] = d;
+        work[child as usize] = d;
     }
 }
 
@@ -82,28 +71,26 @@ fn set_depths(work: &mut [u8], r: TermRecord, d: u8)
     set_depth(work, 2 < k, r.child3.0, d);
 }
 
-fn too_deep(file: &[u8], work: &mut [u8], p: u16, count: u16) -> Guilty
+fn too_deep(file: &[u8], work: &mut [u8], p: u16, count: u16) -> Option<u16>
     requires p_value { (p ≡ props file.now) × (count ≡ terms file.now) }
     requires count_in_bounds { (file_size p count ≤ length file.now) × (count ≤ length work.old) × (1 ≤ count) }
     requires well_linked { WellLinked file.now }
     ensures { result ≡ first (too_deep file.now) count }
 {
     work[0] = 1;
-    let mut t: u16 = 0;
-    while t < count {
-        let i = t as usize;
-        let d = work[i];
+    for t in 0..count {
+        let d = work[t as usize];
         if Term::DEPTH < d {
-            return Guilty::At(t);
+            return Some(t);
         }
         let r = term_at(file, p, Term(t));
         set_depths(work, r, d + 1);
-        t += 1;
     }
-    Guilty::Nobody
+    None
 }
 
-pub fn oversized(file: &[u8], work: &mut [u8]) -> Guilty
+// The place of the lowest guilty record, None where there is none.
+pub fn oversized(file: &[u8], work: &mut [u8]) -> Option<u16>
     requires counted { Counted file.now }
     requires well_linked { WellLinked file.now }
     requires test_room_in_bounds { test_room ≤ length work.old }

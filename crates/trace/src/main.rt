@@ -3,9 +3,10 @@
 // goal's visible serials are left out, since no room holds them.
 #![tactic(auto)]
 
+use entry::check;
 use entry::rooms::{GOALS, PROPOSITIONS, TREE, WORK};
-use entry::{Mark, check};
-use show::input::{LONGEST, next_word, read_table};
+use show::input::{LONGEST, read_table};
+use show::tree::Accepted;
 use std::io;
 use std::io::{Read, Write};
 
@@ -15,34 +16,31 @@ fn answer<W: Write>(out: &mut W, file: &[u8]) -> io::Result<()> {
     let mut props = [0u8; PROPOSITIONS];
     let mut work = [0u8; WORK];
     match check(file, &mut tree, &mut goals, &mut props, &mut work) {
-        Mark::Refused(e) => show::refused(out, e),
-        Mark::Accepted(c) => show::tree::whole(
-            out, &tree, &goals, &props, c.records, c.goals, c.serials, c.made,
-        ),
+        Ok(c) => {
+            let accepted = Accepted {
+                tree: &tree,
+                goals: &goals,
+                props: &props,
+                records: c.records,
+                open: c.goals,
+                serials: c.serials,
+                made: c.made,
+            };
+            write!(out, "{accepted:#}")
+        }
+        Err(e) => show::refused(out, e),
     }
 }
 
-// The answer to the next table, which is number `count`; or there is none.
-fn next<R: Read, W: Write>(from: &mut R, out: &mut W, count: u64) -> io::Result<bool> {
-    let length = next_word(from);
-    if length == 0 {
-        return Ok(false);
-    }
-    show::heading(out, count)?;
+// The answer to the next table, which has that length.
+fn next<R: Read, W: Write>(from: &mut R, out: &mut W, size: usize) -> io::Result<()> {
     let mut room = [0u8; LONGEST];
-    let got = read_table(from, &mut room, length);
-    answer(out, &room[..got])?;
-    show::text(out, b"\n")?;
-    Ok(true)
+    answer(out, read_table(from, &mut room, size))
 }
 
 fn main(rt: HostRuntime) -> io::Result<()> {
     let mut from = rt.stdin();
     let mut out = show::output(&rt);
-    for count in 0..u64::MAX {
-        if !next(&mut from, &mut out, count)? {
-            break;
-        }
-    }
+    show::each(&mut from, &mut out, next)?;
     out.flush()
 }

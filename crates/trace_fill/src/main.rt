@@ -5,20 +5,11 @@
 
 use editing::EDITED;
 use entry::rooms::{GOALS, PROPOSITIONS, TREE, WORK};
-use filling::answer::{Filled, Which};
 use filling::fill;
 use show::input::{LONGEST, next_word, read_table};
+use show::tree::Accepted;
 use std::io;
 use std::io::{Read, Write};
-
-// The line after a refusal.
-fn in_table<W: Write>(out: &mut W, which: Which) -> io::Result<()> {
-    match which {
-        Which::Old => show::text(out, b"where old\n"),
-        Which::Filling => show::text(out, b"where filling\n"),
-        Which::Edit => show::text(out, b"where edited\n"),
-    }
-}
 
 fn answer<W: Write>(out: &mut W, old: &[u8], goal: u16, filling: &[u8]) -> io::Result<()> {
     let mut tree = [0u8; TREE];
@@ -36,46 +27,44 @@ fn answer<W: Write>(out: &mut W, old: &[u8], goal: u16, filling: &[u8]) -> io::R
         &mut work,
         &mut edited,
     ) {
-        Filled::Refused(e, which) => {
-            show::refused(out, e)?;
-            in_table(out, which)
+        Ok(c) => {
+            let accepted = Accepted {
+                tree: &tree,
+                goals: &goals,
+                props: &props,
+                records: c.records,
+                open: c.goals,
+                serials: c.serials,
+                made: c.made,
+            };
+            write!(out, "{accepted:#}")
         }
-        Filled::Accepted(c) => show::tree::whole(
-            out, &tree, &goals, &props, c.records, c.goals, c.serials, c.made,
-        ),
+        Err(e) => {
+            show::refused(out, e.refusal)?;
+            writeln!(out, "where {}", e.which)
+        }
     }
 }
 
 // No table has so many goals as 16 bits count, so the largest number stands for all that are larger.
 fn goal_number(n: usize) -> u16 {
-    if n < 65535 { n as u16 } else { u16::MAX }
+    u16::try_from(n).unwrap_or(u16::MAX)
 }
 
-// The answer to the next filling, which is number `count`; or there is none.
-fn next<R: Read, W: Write>(from: &mut R, out: &mut W, count: u64) -> io::Result<bool> {
-    let length = next_word(from);
-    if length == 0 {
-        return Ok(false);
-    }
-    show::heading(out, count)?;
+// The answer to the next filling, of an old table that has that length.
+fn next<R: Read, W: Write>(from: &mut R, out: &mut W, size: usize) -> io::Result<()> {
     let mut old = [0u8; LONGEST];
-    let n = read_table(from, &mut old, length);
+    let old = read_table(from, &mut old, size);
     let goal = goal_number(next_word(from));
     let mut filling = [0u8; LONGEST];
-    let more = next_word(from);
-    let m = read_table(from, &mut filling, more);
-    answer(out, &old[..n], goal, &filling[..m])?;
-    show::text(out, b"\n")?;
-    Ok(true)
+    let size = next_word(from);
+    let filling = read_table(from, &mut filling, size);
+    answer(out, old, goal, filling)
 }
 
 fn main(rt: HostRuntime) -> io::Result<()> {
     let mut from = rt.stdin();
     let mut out = show::output(&rt);
-    for count in 0..u64::MAX {
-        if !next(&mut from, &mut out, count)? {
-            break;
-        }
-    }
+    show::each(&mut from, &mut out, next)?;
     out.flush()
 }

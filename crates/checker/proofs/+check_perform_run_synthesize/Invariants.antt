@@ -17,7 +17,7 @@ decreases-synthesize l = rank l.file.now l.k.0 1
 -- what the term goes on with, in the rooms that it was begun in and those of now
 abbrev pub invariant-perform-loop-next : goal.invariant-perform-loop-next
 invariant-perform-loop-next l =
-    Going l.file (rooms l.fn.tree l.fn.goals l.fn.props l.fn.work) l.k.0 l.w l.st (rooms l.tree l.goals l.props l.work) l.next
+    Going l.file (rooms l.fn.tree l.fn.goals l.fn.props l.fn.work) l.fn.k l.f.want l.fn.st (rooms l.tree l.goals l.props l.work) l.next
 
 abbrev pub decreases-perform-loop-next : goal.decreases-perform-loop-next
-decreases-perform-loop-next l = left l.file l.next
+decreases-perform-loop-next l = left l.file l.fn.k.0 l.next

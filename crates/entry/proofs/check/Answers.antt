@@ -44,4 +44,4 @@ returns-then-long_enough c =
 
 pub returns-else-long_enough : goal.returns-else-long_enough
 returns-else-long_enough c =
-    marks_short c.args.file.now (rooms c.args.tree.now c.args.goals.now c.args.props.now c.args.work.now) _ _ (search long_false) c.clear_rooms.ensures c.new.ensures
+    rw c.refuse.ensures.answer (marks_short c.args.file.now (rooms c.args.tree.now c.args.goals.now c.args.props.now c.args.work.now) _ _ (search long_false) c.refuse.ensures.emptied c.of.ensures)

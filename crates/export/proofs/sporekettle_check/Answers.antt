@@ -1,6 +1,5 @@
 use mathlib.Core.Path.{refl}
-use Rattle.entry.specs.declared.Mark.{Mark}
-use Rattle.entry.specs.Mark.{Marks}
+use Rattle.entry.specs.Mark.{Mark, Marks}
 use Rattle.step.specs.Rooms.{rooms}
 use Rattle.export.specs.Answer.{mark_record}
 use Rattle.export.proofs.Returning.{returns_short, returns_written}

@@ -1,6 +1,5 @@
 use mathlib.Core.Path.{refl}
-use Rattle.filling.specs.declared.answer.Filled.{Filled}
-use Rattle.filling.specs.Fill.{lent, Fills}
+use Rattle.filling.specs.Fill.{lent, Filled, Fills}
 use Rattle.export.specs.Answer.{filled_record}
 use Rattle.export.proofs.Returning.{returns_short, returns_written}
 use Rattle.export.proofs.sporekettle_fill.Goals as goal

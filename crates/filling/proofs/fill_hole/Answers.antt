@@ -1,4 +1,4 @@
-use mathlib.Core.Path.{sym, subst⁻¹, ◌∙◌}
+use mathlib.Core.Path.{refl, sym, subst⁻¹, ◌∙◌}
 use mathlib.Core.List.{◌++◌}
 use Prim.Native.Nat.{◌≤◌}
 use native.Mathlib.Omega.{arith}
@@ -8,7 +8,7 @@ use Rattle.table.specs.declared.Purpose.TheVariants.{Check}
 use Rattle.editing.specs.Edited.{Edited}
 use Rattle.editing.proofs.Edits.{both_tested, edited_in_order, edited_good}
 use Rattle.filling.specs.Fill.{lent}
-use Rattle.filling.specs.Steps.{ExactAll}
+use Rattle.filling.proofs.Overs.{exact_kept}
 use Rattle.filling.proofs.Parts.{room_long, part_fits, part_is, bytes_take}
 use Rattle.filling.proofs.Stages.{edited_refused, edited_run}
 use Rattle.filling.proofs.fill_hole.Goals as goal
@@ -35,14 +35,9 @@ edit-requires c =
 
 pub slice_bounds-test_edited-end-2 : goal.slice_bounds-test_edited-end-2
 slice_bounds-test_edited-end-2 c =
-    let h = c.requires.fillable in
-    let x = c.requires.exact_all in
     let size = c.edited_size-size in
-    let fit : size.result ≤ length c.args.edited.now = omega (arith, size.ensures.1, x.edited) in
+    let fit : size.result ≤ length c.args.edited.now = omega (arith, size.ensures.1, c.requires.exact_all.edited) in
     let edit = c.edit in
-    let part = part_is size.result c.args.edited.now edit.new.table fit edit.auto.table in
-    let E : Edited c.args.old.now c.args.filling.now c.args.hole.0 (take size.result (edit.new.table ++ drop size.result c.args.edited.now)) =
-    subst⁻¹ (Edited c.args.old.now c.args.filling.now c.args.hole.0) part edit.ensures in
     sym (length-take-le size.result (edit.new.table ++ drop size.result c.args.edited.now) (part_fits size.result c.args.edited.now edit.new.table fit edit.auto.table))
 
 pub test_edited-requires : goal.test_edited-requires
@@ -52,32 +47,25 @@ test_edited-requires c =
     let size = c.edited_size-size in
     let fit : size.result ≤ length c.args.edited.now = omega (arith, size.ensures.1, x.edited) in
     let edit = c.edit in
-    let part = part_is size.result c.args.edited.now edit.new.table fit edit.auto.table in
     let E : Edited c.args.old.now c.args.filling.now c.args.hole.0 (take size.result (edit.new.table ++ drop size.result c.args.edited.now)) =
-    subst⁻¹ (Edited c.args.old.now c.args.filling.now c.args.hole.0) part edit.ensures in
+    subst⁻¹ (Edited c.args.old.now c.args.filling.now c.args.hole.0) (part_is size.result c.args.edited.now edit.new.table fit edit.auto.table) edit.ensures in
     record {
       in_bounds = (omega (arith, E.size), omega (arith, x.rooms.work));
       well_linked = record { purpose = Check; linked = edited_in_order h E };
     }
 
-pub returns-in-Refused : goal.returns-in-Refused
-returns-in-Refused c =
-    let h = c.requires.fillable in
+pub returns-in-Err : goal.returns-in-Err
+returns-in-Err c =
     let x = c.requires.exact_all in
     let size = c.edited_size-size in
     let fit : size.result ≤ length c.args.edited.now = omega (arith, size.ensures.1, x.edited) in
     let edit = c.edit in
-    let bytes = bytes_take size.result (edit.new.table ++ drop size.result c.args.edited.now) (λ i. omega (arith, c.slice_known-6-1.given i)) in
-    let part = part_is size.result c.args.edited.now edit.new.table fit edit.auto.table in
     let E : Edited c.args.old.now c.args.filling.now c.args.hole.0 (take size.result (edit.new.table ++ drop size.result c.args.edited.now)) =
-    subst⁻¹ (Edited c.args.old.now c.args.filling.now c.args.hole.0) part edit.ensures in
+    subst⁻¹ (Edited c.args.old.now c.args.filling.now c.args.hole.0) (part_is size.result c.args.edited.now edit.new.table fit edit.auto.table) edit.ensures in
+    let bytes = bytes_take size.result (edit.new.table ++ drop size.result c.args.edited.now) (λ i. omega (arith, c.slice_known-6-1.given i)) in
     let tested = c.test_edited in
-    let y : ExactAll (lent c.args.tree.now c.args.goals.now c.args.props.now tested.new.work (edit.new.table ++ drop size.result c.args.edited.now)) =
-    record {
-      rooms = record { tree = x.rooms.tree; goals = x.rooms.goals; props = x.rooms.props; work = tested.auto.work ∙ x.rooms.work };
-      edited = room_long size.result c.args.edited.now edit.new.table fit edit.auto.table ∙ x.edited;
-    } in
-    edited_refused c.args.old.now c.args.filling.now c.args.goal c.args.hole.0 c.requires.hole_at (lent c.args.tree.now c.args.goals.now c.args.props.now c.args.work.now c.args.edited.now) _ _ x y _ bytes E tested.result tested.ensures _ _ c.in-Refused.is c.refuse.ensures
+    let y = exact_kept x refl refl refl tested.auto.work (room_long size.result c.args.edited.now edit.new.table fit edit.auto.table) in
+    edited_refused c.args.old.now c.args.filling.now c.args.goal c.args.hole.0 c.requires.hole_at (lent c.args.tree.now c.args.goals.now c.args.props.now c.args.work.now c.args.edited.now) (lent c.args.tree.now c.args.goals.now c.args.props.now tested.new.work (edit.new.table ++ drop size.result c.args.edited.now)) _ x y _ bytes E tested.result tested.ensures _ _ c.in-Err.is c.refuse.ensures
 
 pub run_filling-requires : goal.run_filling-requires
 run_filling-requires c =
@@ -86,15 +74,10 @@ run_filling-requires c =
     let size = c.edited_size-size in
     let fit : size.result ≤ length c.args.edited.now = omega (arith, size.ensures.1, x.edited) in
     let edit = c.edit in
-    let part = part_is size.result c.args.edited.now edit.new.table fit edit.auto.table in
     let E : Edited c.args.old.now c.args.filling.now c.args.hole.0 (take size.result (edit.new.table ++ drop size.result c.args.edited.now)) =
-    subst⁻¹ (Edited c.args.old.now c.args.filling.now c.args.hole.0) part edit.ensures in
+    subst⁻¹ (Edited c.args.old.now c.args.filling.now c.args.hole.0) (part_is size.result c.args.edited.now edit.new.table fit edit.auto.table) edit.ensures in
     let tested = c.test_edited in
-    let y : ExactAll (lent c.args.tree.now c.args.goals.now c.args.props.now tested.new.work (edit.new.table ++ drop size.result c.args.edited.now)) =
-    record {
-      rooms = record { tree = x.rooms.tree; goals = x.rooms.goals; props = x.rooms.props; work = tested.auto.work ∙ x.rooms.work };
-      edited = room_long size.result c.args.edited.now edit.new.table fit edit.auto.table ∙ x.edited;
-    } in
+    let y = exact_kept x refl refl refl tested.auto.work (room_long size.result c.args.edited.now edit.new.table fit edit.auto.table) in
     record {
       fillable = h;
       hole_at = c.requires.hole_at;
@@ -105,20 +88,13 @@ run_filling-requires c =
 
 pub returns : goal.returns
 returns c =
-    let h = c.requires.fillable in
     let x = c.requires.exact_all in
     let size = c.edited_size-size in
     let fit : size.result ≤ length c.args.edited.now = omega (arith, size.ensures.1, x.edited) in
     let edit = c.edit in
-    let bytes = bytes_take size.result (edit.new.table ++ drop size.result c.args.edited.now) (λ i. omega (arith, c.slice_known-6-1.given i)) in
-    let part = part_is size.result c.args.edited.now edit.new.table fit edit.auto.table in
     let E : Edited c.args.old.now c.args.filling.now c.args.hole.0 (take size.result (edit.new.table ++ drop size.result c.args.edited.now)) =
-    subst⁻¹ (Edited c.args.old.now c.args.filling.now c.args.hole.0) part edit.ensures in
+    subst⁻¹ (Edited c.args.old.now c.args.filling.now c.args.hole.0) (part_is size.result c.args.edited.now edit.new.table fit edit.auto.table) edit.ensures in
+    let bytes = bytes_take size.result (edit.new.table ++ drop size.result c.args.edited.now) (λ i. omega (arith, c.slice_known-6-1.given i)) in
     let tested = c.test_edited in
-    let y : ExactAll (lent c.args.tree.now c.args.goals.now c.args.props.now tested.new.work (edit.new.table ++ drop size.result c.args.edited.now)) =
-    record {
-      rooms = record { tree = x.rooms.tree; goals = x.rooms.goals; props = x.rooms.props; work = tested.auto.work ∙ x.rooms.work };
-      edited = room_long size.result c.args.edited.now edit.new.table fit edit.auto.table ∙ x.edited;
-    } in
-    edited_run c.args.old.now c.args.filling.now c.args.goal c.args.hole.0 c.requires.hole_at (lent c.args.tree.now c.args.goals.now c.args.props.now c.args.work.now c.args.edited.now) _ _ x y _ bytes E tested.result tested.ensures _ c.in_default.is
-    c.run_filling.ensures
+    let y = exact_kept x refl refl refl tested.auto.work (room_long size.result c.args.edited.now edit.new.table fit edit.auto.table) in
+    edited_run c.args.old.now c.args.filling.now c.args.goal c.args.hole.0 c.requires.hole_at (lent c.args.tree.now c.args.goals.now c.args.props.now c.args.work.now c.args.edited.now) (lent c.args.tree.now c.args.goals.now c.args.props.now tested.new.work (edit.new.table ++ drop size.result c.args.edited.now)) _ x y _ bytes E tested.result tested.ensures _ c.in_default.is c.run_filling.ensures

@@ -1,6 +1,5 @@
 use Rattle.table.specs.Tests.{test_room}
-use mathlib.Core.Path.{sym, ◌∙◌}
-use native.Mathlib.Omega.{arith}
+use mathlib.Core.Path.{◌∙◌}
 use lib.Seq.{length-take-le}
 use Rattle.table.proofs.Verdicts.{tested_short, tested_long}
 use Rattle.table.proofs.test_table.Goals as goal
@@ -8,13 +7,7 @@ use Rattle.table.proofs.test_table.Goals as goal
 pub returns-then-work-lt-ROOM : goal.returns-then-work-lt-ROOM
 returns-then-work-lt-ROOM c =
     let a = c.args in
-    tested_short a.purpose a.file.now a.work.now _ _ c.if-work-lt-ROOM.true c.clear.ensures c.new.ensures
-
-pub slice_bounds-run_tests-end-2 : goal.slice_bounds-run_tests-end-2
-slice_bounds-run_tests-end-2 c = sym (length-take-le test_room c.args.work.now c.if-work-lt-ROOM.false)
-
-pub run_tests-answer-requires : goal.run_tests-answer-requires
-run_tests-answer-requires c = omega (arith, length-take-le test_room c.args.work.now c.if-work-lt-ROOM.false)
+    tested_short a.purpose a.file.now a.work.now _ _ c.if-work-lt-ROOM.true c.clear.ensures c.of.ensures
 
 pub returns : goal.returns
 returns c =

@@ -1,18 +1,5 @@
-use native.Mathlib.Omega.{arith}
 use Rattle.context.proofs.Laws.{inserted}
 use Rattle.context.proofs.identifier_context.insert.Goals as goal
-
-pub put_word-requires : goal.put_word-requires
-put_word-requires c = omega arith
-
-pub put_word-requires-2 : goal.put_word-requires-2
-put_word-requires-2 c = omega arith
-
-pub put_word-requires-3 : goal.put_word-requires-3
-put_word-requires-3 c = omega arith
-
-pub put_word-requires-4 : goal.put_word-requires-4
-put_word-requires-4 c = omega arith
 
 pub returns : goal.returns
 returns c =

@@ -1,4 +1,4 @@
-use Rattle.editing.proofs.Fields.{left_moves, right_moves, body_moves, prop_moved}
+use Rattle.editing.proofs.Fields.{left_moves, right_moves, body_moves}
 use Rattle.editing.proofs.moving.move_prop.Goals as goal
 
 pub moved-x-requires : goal.moved-x-requires
@@ -9,6 +9,3 @@ moved-y-requires c = right_moves c.requires _ c.prop_shape-s.ensures
 
 pub moved-z-requires : goal.moved-z-requires
 moved-z-requires c = body_moves c.requires _ c.prop_shape-s.ensures
-
-pub returns : goal.returns
-returns c = search prop_moved

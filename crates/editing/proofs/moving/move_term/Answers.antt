@@ -1,4 +1,4 @@
-use Rattle.editing.proofs.Fields.{type_moves, first_moves, second_moves, third_moves, term_moved}
+use Rattle.editing.proofs.Fields.{type_moves, first_moves, second_moves, third_moves}
 use Rattle.editing.proofs.moving.move_term.Goals as goal
 
 pub moved-typ-requires : goal.moved-typ-requires
@@ -12,6 +12,3 @@ moved-y-requires c = second_moves c.requires _ c.term_shape-s.ensures
 
 pub moved-z-requires : goal.moved-z-requires
 moved-z-requires c = third_moves c.requires _ c.term_shape-s.ensures
-
-pub returns : goal.returns
-returns c = search term_moved

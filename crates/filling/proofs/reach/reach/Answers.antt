@@ -8,59 +8,34 @@ use Rattle.filling.proofs.reach.reach.Goals as goal
 
 pub load-requires : goal.load-requires
 load-requires c =
-    let h = c.requires.fillable in
-    let E = c.requires.edited.0 in
-    let counted = c.requires.edited.1 in
-    let x = c.requires.exact in
-    let p = loadable h E counted in
+    let (E, counted) = c.requires.edited in
+    let p = loadable c.requires.fillable E counted in
     record {
       counted = p.0;
       formed = p.1.0;
       well_linked = p.1.1;
-      test_room_in_bounds = (omega (arith, x.work), omega (arith, counted.propositions, x.props));
+      test_room_in_bounds = (omega (arith, c.requires.exact.work), omega (arith, counted.propositions, c.requires.exact.props));
     }
 
 pub term_record-root-requires : goal.term_record-root-requires
-term_record-root-requires c =
-    let h = c.requires.fillable in
-    let E = c.requires.edited.0 in
-    let counted = c.requires.edited.1 in
-    let x = c.requires.exact in
-    term_inside h E counted
+term_record-root-requires c = term_inside c.requires.fillable c.requires.edited.0 c.requires.edited.1
 
 pub term_record-requires : goal.term_record-requires
-term_record-requires c =
-    let h = c.requires.fillable in
-    let E = c.requires.edited.0 in
-    let counted = c.requires.edited.1 in
-    let x = c.requires.exact in
-    old_inside h E counted
+term_record-requires c = old_inside c.requires.fillable c.requires.edited.0 c.requires.edited.1
 
 pub put_term-requires : goal.put_term-requires
-put_term-requires c =
-    let h = c.requires.fillable in
-    let E = c.requires.edited.0 in
-    let counted = c.requires.edited.1 in
-    let x = c.requires.exact in
-    term_inside h E counted
+put_term-requires c = term_inside c.requires.fillable c.requires.edited.0 c.requires.edited.1
 
 pub expected_field-requires : goal.expected_field-requires
-expected_field-requires c =
-    let h = c.requires.fillable in
-    let E = c.requires.edited.0 in
-    let counted = c.requires.edited.1 in
-    let x = c.requires.exact in
-    omega (arith, c.put_term.ensures.size, E.size)
+expected_field-requires c = omega (arith, c.put_term.ensures.size, c.requires.edited.0.size)
 
 pub check-requires : goal.check-requires
 check-requires c =
     let h = c.requires.fillable in
-    let E = c.requires.edited.0 in
-    let counted = c.requires.edited.1 in
+    let (E, counted) = c.requires.edited in
     let x = c.requires.exact in
     let loaded = c.load in
-    let put = c.put_term in
-    let J = waiting h E counted _ _ c.term_record.ensures put.ensures in
+    let J = waiting h E counted _ _ c.term_record.ensures c.put_term.ensures in
     let y : Exact (rooms c.args.tree.now c.args.goals.now loaded.new.props loaded.new.work) =
     record { tree = x.tree; goals = x.goals; props = loaded.auto.props ∙ x.props; work = loaded.auto.work ∙ x.work } in
     record {
@@ -71,25 +46,16 @@ check-requires c =
 pub put_term-requires-2 : goal.put_term-requires-2
 put_term-requires-2 c =
     let h = c.requires.fillable in
-    let E = c.requires.edited.0 in
-    let counted = c.requires.edited.1 in
-    let x = c.requires.exact in
-    let loaded = c.load in
-    let put = c.put_term in
-    let J = waiting h E counted _ _ c.term_record.ensures put.ensures in
-    let y : Exact (rooms c.args.tree.now c.args.goals.now loaded.new.props loaded.new.work) =
-    record { tree = x.tree; goals = x.goals; props = loaded.auto.props ∙ x.props; work = loaded.auto.work ∙ x.work } in
-    waiting_inside h E counted J
+    let (E, counted) = c.requires.edited in
+    waiting_inside h E counted (waiting h E counted _ _ c.term_record.ensures c.put_term.ensures)
 
 pub recall-requires : goal.recall-requires
 recall-requires c =
     let h = c.requires.fillable in
-    let E = c.requires.edited.0 in
-    let counted = c.requires.edited.1 in
+    let (E, counted) = c.requires.edited in
     let x = c.requires.exact in
     let loaded = c.load in
-    let put = c.put_term in
-    let J = waiting h E counted _ _ c.term_record.ensures put.ensures in
+    let J = waiting h E counted _ _ c.term_record.ensures c.put_term.ensures in
     let y : Exact (rooms c.args.tree.now c.args.goals.now loaded.new.props loaded.new.work) =
     record { tree = x.tree; goals = x.goals; props = loaded.auto.props ∙ x.props; work = loaded.auto.work ∙ x.work } in
     let field = c.expected_field in
@@ -107,12 +73,10 @@ shape_of-work c = c.recall.auto.work ∙ c.check.auto.work ∙ c.load.auto.work
 pub returns : goal.returns
 returns c =
     let h = c.requires.fillable in
-    let E = c.requires.edited.0 in
-    let counted = c.requires.edited.1 in
+    let (E, counted) = c.requires.edited in
     let x = c.requires.exact in
     let loaded = c.load in
-    let put = c.put_term in
-    let J = waiting h E counted _ _ c.term_record.ensures put.ensures in
+    let J = waiting h E counted _ _ c.term_record.ensures c.put_term.ensures in
     let y : Exact (rooms c.args.tree.now c.args.goals.now loaded.new.props loaded.new.work) =
     record { tree = x.tree; goals = x.goals; props = loaded.auto.props ∙ x.props; work = loaded.auto.work ∙ x.work } in
     let field = c.expected_field in

@@ -7,12 +7,12 @@ use Rattle.filling.specs.Fill.{lent}
 use Rattle.filling.proofs.Finishing.{within, rest_room, run_refused, run_accepted}
 use Rattle.filling.proofs.run.finish.Goals as goal
 
-pub slice_bounds-count_of-end-in-Has : goal.slice_bounds-count_of-end-in-Has
-slice_bounds-count_of-end-in-Has c = sym (length-take-le _ c.args.edited.now c.requires.size_in_bounds)
+pub slice_bounds-count-end-in-Ok : goal.slice_bounds-count-end-in-Ok
+slice_bounds-count-end-in-Ok c = sym (length-take-le _ c.args.edited.now c.requires.size_in_bounds)
 
-pub count_of-count-requires : goal.count_of-count-requires
-count_of-count-requires c =
-    let w = within (take c.args.size c.args.edited.now) c.args.size c.args.serials (rooms c.args.tree.now c.args.goals.now c.args.props.now c.args.work.now) c.args.answer _ c.in-Has.st c.in-Has.is c.requires.fitting in
+pub count-count-requires : goal.count-count-requires
+count-count-requires c =
+    let w = within (take c.args.size c.args.edited.now) c.args.size c.args.serials (rooms c.args.tree.now c.args.goals.now c.args.props.now c.args.work.now) c.args.answer _ c.in-Ok.is c.requires.fitting in
     record {
       in_bounds = omega (arith, length-take-le c.args.size c.args.edited.now c.requires.size_in_bounds, w.0);
       st_bound = w.1;
@@ -20,17 +20,17 @@ count_of-count-requires c =
 
 pub clear_rest-requires : goal.clear_rest-requires
 clear_rest-requires c =
-    let all = rest_room (take c.args.size c.args.edited.now) c.args.size c.args.serials (rooms c.args.tree.now c.args.goals.now c.args.props.now c.args.work.now) c.args.answer _ c.in-Has.st c.in-Has.is c.requires.fitting _ c.count_of-count.ensures c.requires.exact_all.rooms in
+    let all = rest_room (take c.args.size c.args.edited.now) c.args.size c.args.serials (rooms c.args.tree.now c.args.goals.now c.args.props.now c.args.work.now) c.args.answer _ c.in-Ok.is c.requires.fitting _ c.count-count.ensures c.requires.exact_all.rooms in
     record { records_bound = all.0; holes_bound = all.1.0; count_bound = all.1.1 }
 
 pub overflow_sub-result : goal.overflow_sub-result
-overflow_sub-result c = (within (take c.args.size c.args.edited.now) c.args.size c.args.serials (rooms c.args.tree.now c.args.goals.now c.args.props.now c.args.work.now) c.args.answer _ c.in-Has.st c.in-Has.is c.requires.fitting).4
+overflow_sub-result c = (within (take c.args.size c.args.edited.now) c.args.size c.args.serials (rooms c.args.tree.now c.args.goals.now c.args.props.now c.args.work.now) c.args.answer _ c.in-Ok.is c.requires.fitting).4
 
-pub returns-in-Refused : goal.returns-in-Refused
-returns-in-Refused c =
-    λ g o b ran. run_refused (lent c.args.tree.now c.args.goals.now c.args.props.now c.args.work.now c.args.edited.now) _ c.args.size c.args.serials g o b c.args.answer ran _ _ c.in-Refused.is c.refuse.ensures
+pub returns-in-Err : goal.returns-in-Err
+returns-in-Err c =
+    λ g o b ran. run_refused (lent c.args.tree.now c.args.goals.now c.args.props.now c.args.work.now c.args.edited.now) _ c.args.size c.args.serials g o b c.args.answer ran _ _ c.in-Err.is c.refuse.ensures
 
-pub returns-in-Has : goal.returns-in-Has
-returns-in-Has c =
-    λ g o b ran. run_accepted (lent c.args.tree.now c.args.goals.now c.args.props.now c.args.work.now c.args.edited.now) _ c.args.size c.args.serials g o b c.args.answer ran _ _ c.in-Has.st _ c.in-Has.is c.requires.size_in_bounds
-    c.count_of-count.ensures c.clear_rest.ensures c.trim.ensures refl
+pub returns-in-Ok : goal.returns-in-Ok
+returns-in-Ok c =
+    λ g o b ran. rw c.from.ensures (run_accepted (lent c.args.tree.now c.args.goals.now c.args.props.now c.args.work.now c.args.edited.now) _ c.args.size c.args.serials g o b c.args.answer ran _ _ _ c.in-Ok.is c.requires.size_in_bounds
+    c.count-count.ensures c.clear_rest.ensures c.trim.ensures refl)

@@ -1,5 +1,5 @@
 use Rattle.filling.proofs.Running.{few_nodes, hole_ready, hole_meets, hole_fits, run_from}
-use mathlib.Core.Path.{◌≡◌, ap, sym, ◌∙◌}
+use mathlib.Core.Path.{◌≡◌, refl, ap, sym, ◌∙◌}
 use mathlib.Core.List.{◌++◌}
 use native.Mathlib.Omega.{arith}
 use lib.ListN.{length, take, drop}
@@ -7,9 +7,8 @@ use lib.Seq.{length-take-le}
 use Rattle.table.proofs.Passing.{good_passed}
 use Rattle.step.specs.Rooms.{rooms}
 use Rattle.filling.specs.Fill.{lent}
+use Rattle.filling.proofs.Overs.{exact_kept}
 use Rattle.filling.proofs.Parts.{room_same}
-use Rattle.entry.specs.Ran.{Exact}
-use Rattle.filling.specs.Steps.{ExactAll}
 use Rattle.filling.proofs.run.run_filling.Goals as goal
 
 pub slice_bounds-reach-end-2 : goal.slice_bounds-reach-end-2
@@ -50,15 +49,7 @@ check-answer-requires c =
     let fit = c.requires.size_in_bounds.0 in
     let reached = c.reach-start in
     let whole : (reached.new.table ++ drop c.args.size c.args.edited.now) ≡ c.args.edited.now = room_same c.args.size c.args.edited.now reached.new.table reached.ensures.0 in
-    let x = c.requires.exact_all in
     let same : (take c.args.size (reached.new.table ++ drop c.args.size c.args.edited.now)) ≡ (take c.args.size c.args.edited.now) = ap (take c.args.size) whole in
-    let y : Exact (rooms reached.new.tree reached.new.goals reached.new.props reached.new.work) =
-    record {
-      tree = reached.auto.tree ∙ x.rooms.tree;
-      goals = reached.auto.goals ∙ x.rooms.goals;
-      props = reached.auto.props ∙ x.rooms.props;
-      work = reached.auto.work ∙ x.rooms.work;
-    } in
     let all = hole_ready c.args.old.now c.args.goal c.args.hole.0 c.requires.hole_at (take c.args.size c.args.edited.now) (take c.args.size (reached.new.table ++ drop c.args.size c.args.edited.now)) same (rooms reached.new.tree reached.new.goals reached.new.props reached.new.work) reached.result reached.ensures.1 in
     record { ready = all.0; type_in = all.1 }
 
@@ -69,30 +60,14 @@ finish-requires c =
     let whole : (reached.new.table ++ drop c.args.size c.args.edited.now) ≡ c.args.edited.now = room_same c.args.size c.args.edited.now reached.new.table reached.ensures.0 in
     let x = c.requires.exact_all in
     let same : (take c.args.size (reached.new.table ++ drop c.args.size c.args.edited.now)) ≡ (take c.args.size c.args.edited.now) = ap (take c.args.size) whole in
-    let y : Exact (rooms reached.new.tree reached.new.goals reached.new.props reached.new.work) =
-    record {
-      tree = reached.auto.tree ∙ x.rooms.tree;
-      goals = reached.auto.goals ∙ x.rooms.goals;
-      props = reached.auto.props ∙ x.rooms.props;
-      work = reached.auto.work ∙ x.rooms.work;
-    } in
+    let y = exact_kept x reached.auto.tree reached.auto.goals reached.auto.props reached.auto.work (ap length whole) in
     let ran = c.check-answer in
     let few = few_nodes c.requires.fillable c.requires.size_in_bounds.1 in
-    let z : ExactAll (lent ran.new.tree ran.new.goals ran.new.props ran.new.work (reached.new.table ++ drop c.args.size c.args.edited.now)) =
-    record {
-      rooms =
-          record {
-            tree = ran.auto.tree ∙ y.tree;
-            goals = ran.auto.goals ∙ y.goals;
-            props = ran.auto.props ∙ y.props;
-            work = ran.auto.work ∙ y.work;
-          };
-      edited = ap length whole ∙ x.edited;
-    } in
+    let z = exact_kept y ran.auto.tree ran.auto.goals ran.auto.props ran.auto.work refl in
     let long = length-take-le c.args.size c.args.edited.now fit in
     record {
       exact_all = z;
-      fitting = hole_fits c.args.old.now c.args.goal c.args.hole.0 c.requires.hole_at (take c.args.size c.args.edited.now) (take c.args.size (reached.new.table ++ drop c.args.size c.args.edited.now)) same (rooms reached.new.tree reached.new.goals reached.new.props reached.new.work) reached.result reached.ensures.1 y few (rooms ran.new.tree ran.new.goals ran.new.props ran.new.work) ran.result ran.ensures c.args.size (omega (arith, long, c.requires.size_in_bounds.1.size)) z.rooms;
+      fitting = hole_fits c.args.old.now c.args.goal c.args.hole.0 c.requires.hole_at (take c.args.size c.args.edited.now) (take c.args.size (reached.new.table ++ drop c.args.size c.args.edited.now)) same (rooms reached.new.tree reached.new.goals reached.new.props reached.new.work) reached.result reached.ensures.1 y.rooms few (rooms ran.new.tree ran.new.goals ran.new.props ran.new.work) ran.result ran.ensures c.args.size (omega (arith, long, c.requires.size_in_bounds.1.size)) z.rooms;
       size_in_bounds = omega (arith, fit, ap length whole);
     }
 
@@ -106,24 +81,8 @@ returns c =
     let whole : (reached.new.table ++ drop c.args.size c.args.edited.now) ≡ c.args.edited.now = room_same c.args.size c.args.edited.now reached.new.table reached.ensures.0 in
     let x = c.requires.exact_all in
     let same : (take c.args.size (reached.new.table ++ drop c.args.size c.args.edited.now)) ≡ (take c.args.size c.args.edited.now) = ap (take c.args.size) whole in
-    let y : Exact (rooms reached.new.tree reached.new.goals reached.new.props reached.new.work) =
-    record {
-      tree = reached.auto.tree ∙ x.rooms.tree;
-      goals = reached.auto.goals ∙ x.rooms.goals;
-      props = reached.auto.props ∙ x.rooms.props;
-      work = reached.auto.work ∙ x.rooms.work;
-    } in
+    let y = exact_kept x reached.auto.tree reached.auto.goals reached.auto.props reached.auto.work (ap length whole) in
     let ran = c.check-answer in
     let few = few_nodes c.requires.fillable c.requires.size_in_bounds.1 in
-    let z : ExactAll (lent ran.new.tree ran.new.goals ran.new.props ran.new.work (reached.new.table ++ drop c.args.size c.args.edited.now)) =
-    record {
-      rooms =
-          record {
-            tree = ran.auto.tree ∙ y.tree;
-            goals = ran.auto.goals ∙ y.goals;
-            props = ran.auto.props ∙ y.props;
-            work = ran.auto.work ∙ y.work;
-          };
-      edited = ap length whole ∙ x.edited;
-    } in
-    run_from c.args.old.now c.args.goal (take c.args.size c.args.edited.now) (take c.args.size (reached.new.table ++ drop c.args.size c.args.edited.now)) same (lent c.args.tree.now c.args.goals.now c.args.props.now c.args.work.now c.args.edited.now) _ _ x z _ ran.result _ c.finish.ensures (λ g goal. hole_meets c.args.old.now c.args.goal c.args.hole.0 c.requires.hole_at (take c.args.size c.args.edited.now) (take c.args.size (reached.new.table ++ drop c.args.size c.args.edited.now)) same (rooms reached.new.tree reached.new.goals reached.new.props reached.new.work) reached.result reached.ensures.1 y few (rooms ran.new.tree ran.new.goals ran.new.props ran.new.work) ran.result ran.ensures g goal)
+    let z = exact_kept y ran.auto.tree ran.auto.goals ran.auto.props ran.auto.work refl in
+    run_from c.args.old.now c.args.goal (take c.args.size c.args.edited.now) (take c.args.size (reached.new.table ++ drop c.args.size c.args.edited.now)) same (lent c.args.tree.now c.args.goals.now c.args.props.now c.args.work.now c.args.edited.now) _ _ x z _ ran.result _ c.finish.ensures (λ g goal. hole_meets c.args.old.now c.args.goal c.args.hole.0 c.requires.hole_at (take c.args.size c.args.edited.now) (take c.args.size (reached.new.table ++ drop c.args.size c.args.edited.now)) same (rooms reached.new.tree reached.new.goals reached.new.props reached.new.work) reached.result reached.ensures.1 y.rooms few (rooms ran.new.tree ran.new.goals ran.new.props ran.new.work) ran.result ran.ensures g goal)

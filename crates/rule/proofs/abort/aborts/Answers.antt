@@ -2,10 +2,7 @@ use Rattle.rule.proofs.Aborts.{aborts_data, aborts_by}
 use Rattle.rule.proofs.abort.aborts.Goals as goal
 
 pub returns-in_default : goal.returns-in_default
-returns-in_default c = λ l goals ps work. record { goes = λ R₀ a. aborts_data a _ c.answered.ensures _ c.in_default.is _ c.at.ensures }
-
-pub by-requires : goal.by-requires
-by-requires c = c.requires
+returns-in_default c = λ l goals ps work. record { goes = λ R₀ a. search aborts_data }
 
 pub returns : goal.returns
 returns c = λ l goals ps work. record { goes = λ R₀ a. (c.by.ensures l goals ps work).goes R₀ (aborts_by a _ c.answered.ensures _ c.in-Proposition.is) }

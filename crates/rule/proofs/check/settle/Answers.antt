@@ -4,20 +4,8 @@ use Rattle.rule.proofs.check.settle.Goals as goal
 pub returns-in_default : goal.returns-in_default
 returns-in_default c = λ z. ended_synth z c.in_default.is
 
-pub term_record-r-requires-clause-counted : goal.term_record-r-requires-clause-counted
-term_record-r-requires-clause-counted c = c.requires.ready.base.table.counted
-
-pub term_record-r-requires-clause-k_bound : goal.term_record-r-requires-clause-k_bound
-term_record-r-requires-clause-k_bound c = c.requires.ready.here
-
-pub hold-requires-clause-ended : goal.hold-requires-clause-ended
-hold-requires-clause-ended c = ended_check c.requires c.in-Check.is
-
-pub hold-requires-clause-k_value : goal.hold-requires-clause-k_value
-hold-requires-clause-k_value c = kind_compares _ _ _ c.term_record-r.ensures _ c.compares.ensures c.if-compares.true
-
 pub returns-then-compares : goal.returns-then-compares
 returns-then-compares c = λ z. ended_checked z c.in-Check.is _ c.hold.result (c.hold.ensures (ended_check z c.in-Check.is))
 
 pub returns-else-compares : goal.returns-else-compares
-returns-else-compares c = λ z. ended_so z (kind_compares _ _ _ c.term_record-r.ensures _ c.compares.ensures c.if-compares.false)
+returns-else-compares c = λ z. ended_so z (kind_compares _ _ _ c.term_record.ensures _ c.compares.ensures c.if-compares.false)

@@ -5,9 +5,6 @@ use Prim.Native.Nat.{◌+◌}
 use native.Mathlib.Omega.{arith}
 use Rattle.rule.proofs.sorry.check.Goals as goal
 
-pub picture-requires : goal.picture-requires
-picture-requires c = c.requires.run_room_in_bounds
-
 pub overflow_add-s : goal.overflow_add-s
 overflow_add-s c = omega (arith, ap (λ (s : State). s.goals) c.inner-s.ensures, c.requires.goals_in_bounds.1)
 

@@ -1,25 +1,12 @@
 use Rattle.rule.proofs.Leaves.{true_full, true_has}
-use Rattle.step.proofs.Moves.{loaded_arena, loaded_left, made_more, made_few}
-use native.Mathlib.Omega.{arith}
+use Rattle.step.proofs.Moves.{made_more, made_few}
 use Rattle.rule.proofs.unit.synthesize.Goals as goal
 
-pub make_constant-requires-clause-arena : goal.make_constant-requires-clause-arena
-make_constant-requires-clause-arena c = loaded_arena c.args.file.now _ c.args.st _ c.count_of-count.ensures c.requires.room.0
-
-pub make_constant-requires-clause-left_bound : goal.make_constant-requires-clause-left_bound
-make_constant-requires-clause-left_bound c = loaded_left c.args.file.now c.args.st _ _ c.count_of-count.ensures c.left_of.ensures c.requires.here.0.counted
-
-pub make_constant-requires-clause-most_records_in_bounds : goal.make_constant-requires-clause-most_records_in_bounds
-make_constant-requires-clause-most_records_in_bounds c = c.requires.room.0.long
-
 pub returns-in_default : goal.returns-in_default
-returns-in_default c = λ goals work. record { begins = λ rd. true_full rd c.requires.k_value _ _ _ _ c.count_of-count.ensures c.left_of.ensures c.make_constant.ensures c.in_default.is _ c.at.ensures }
-
-pub grown-requires : goal.grown-requires
-grown-requires c = (made_more c.args.file.now _ _ _ _ c.args.st _ _ _ c.count_of-count.ensures c.left_of.ensures c.make_constant.ensures _ _ c.in-At.is, made_few c.args.file.now _ _ _ _ c.args.st _ _ _ c.count_of-count.ensures c.left_of.ensures c.make_constant.ensures _ _ c.in-At.is c.requires.here.0.counted)
-
-pub inner-requires : goal.inner-requires
-inner-requires c = omega (arith, c.grown.ensures.1, c.requires.place.1)
+returns-in_default c = λ goals work. record { begins = λ rd. let is = c.in_default.ensures in search true_full }
 
 pub returns : goal.returns
-returns c = λ goals work. record { begins = λ rd. true_has rd c.requires.k_value _ _ _ _ c.count_of-count.ensures c.left_of.ensures c.make_constant.ensures _ _ _ c.in-At.is c.grown.ensures _ _ _ c.node-top.ensures c.put_node.ensures c.inner.ensures }
+returns c = λ goals work. record { begins = λ rd. let is = c.in-Some.ensures in search true_has }
+
+pub grown-requires : goal.grown-requires
+grown-requires c = (search made_more, search made_few)

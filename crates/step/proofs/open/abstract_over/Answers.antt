@@ -1,38 +1,30 @@
-use Rattle.prop.proofs.Heads.{prop_in}
-use Rattle.step.proofs.Moves.{loaded_arena, loaded_type, loaded_left}
+use mathlib.Core.Path.{◌∙◌}
+use Rattle.std.proofs.lemmas.Result.{err_from_is_err_and}
+use Rattle.step.proofs.Refusing.{ok_or_err}
 use Rattle.step.proofs.Openings.{impl_more, impl_few, impl_full, impl_made, forall_more, forall_few, forall_full, forall_made}
-use borrow.Author.Rules.{rules}
 use Rattle.step.proofs.open.abstract_over.Goals as goal
-
-pub make_impl-requires-clause-arena : goal.make_impl-requires-clause-arena
-make_impl-requires-clause-arena c = search loaded_arena
-
-pub make_impl-requires-clause-a_lt_count : goal.make_impl-requires-clause-a_lt_count
-make_impl-requires-clause-a_lt_count c = (search (prop_in, loaded_type), search rules)
-
-pub make_impl-requires-clause-left_bound : goal.make_impl-requires-clause-left_bound
-make_impl-requires-clause-left_bound c = search loaded_left
+use Rattle.step.proofs.open.abstract_over.Goals.{in-Proposition, in-Datatype}
 
 pub grown-requires : goal.grown-requires
-grown-requires c = (search impl_more, search impl_few)
+grown-requires c =
+    elim c.match-t.branch [
+      | in-Proposition w ↦ let v = rw w.rule-is at c.in_ok-made.ensures.ok_part in (search impl_more, search impl_few)
+      | in-Datatype w ↦ let v = rw w.rule-is at c.in_ok-made.ensures.ok_part in (search forall_more, search forall_few)
+    ]
 
-pub make_forall-requires-clause-arena : goal.make_forall-requires-clause-arena
-make_forall-requires-clause-arena c = search loaded_arena
+pub returns-in_err-made : goal.returns-in_err-made
+returns-in_err-made c =
+    let p = err_from_is_err_and c.from_residual.result c.from_residual.ensures.1 in
+    let no = ok_or_err c.in_err-made.ensures.value in
+    let at = no.1 ∙ c.at.ensures in
+    rw (p.1, p.2) (elim c.match-t.branch [
+      | in-Proposition w ↦ let v = rw w.rule-is at no.0 in search impl_full
+      | in-Datatype w ↦ let v = rw w.rule-is at no.0 in search forall_full
+    ])
 
-pub make_forall-requires-clause-left_bound : goal.make_forall-requires-clause-left_bound
-make_forall-requires-clause-left_bound c = search loaded_left
-
-pub grown-requires-in-At-make_forall : goal.grown-requires-in-At-make_forall
-grown-requires-in-At-make_forall c = (search forall_more, search forall_few)
-
-pub returns-in-Full : goal.returns-in-Full
-returns-in-Full c = search impl_full
-
-pub returns-in-At : goal.returns-in-At
-returns-in-At c = search impl_made
-
-pub returns-in-Full-make_forall : goal.returns-in-Full-make_forall
-returns-in-Full-make_forall c = search forall_full
-
-pub returns-in-At-make_forall : goal.returns-in-At-make_forall
-returns-in-At-make_forall c = search forall_made
+pub returns : goal.returns
+returns c =
+    elim c.match-t.branch [
+      | in-Proposition w ↦ let v = rw w.rule-is at c.in_ok-made.ensures.ok_part in rw (w.props-is, w.rule-is) (search impl_made)
+      | in-Datatype w ↦ let v = rw w.rule-is at c.in_ok-made.ensures.ok_part in rw (w.props-is, w.rule-is) (search forall_made)
+    ]

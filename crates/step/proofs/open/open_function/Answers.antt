@@ -1,40 +1,35 @@
-use Rattle.step.proofs.Moves.{loaded_arena, loaded_type, loaded_left, put_more, put_few}
-use Rattle.step.proofs.Openings.{all_in, open_impl, open_other, open_full, open_forall}
-use borrow.Author.Rules.{rules}
+use Rattle.step.proofs.Moves.{put_more, put_few}
+use Rattle.step.proofs.Openings.{open_impl, open_other, open_full, open_forall}
+use mathlib.Core.Path.{◌∙◌}
+use Rattle.std.proofs.lemmas.Result.{err_from_is_err_and}
+use Rattle.step.proofs.Refusing.{ok_or_err}
 use Rattle.step.proofs.open.open_function.Goals as goal
 
-pub split-requires-clause-arena : goal.split-requires-clause-arena
-split-requires-clause-arena c = search loaded_arena
-
-pub split-requires-clause-type_in : goal.split-requires-clause-type_in
-split-requires-clause-type_in c = search loaded_type
-
-pub returns-in-Both : goal.returns-in-Both
-returns-in-Both c = search open_impl
-
-pub over-requires-clause-arena : goal.over-requires-clause-arena
-over-requires-clause-arena c = search loaded_arena
-
-pub over-requires-clause-type_in : goal.over-requires-clause-type_in
-over-requires-clause-type_in c = search loaded_type
+pub returns-in-Some : goal.returns-in-Some
+returns-in-Some c = let s = rw c.held-held.ensures.room at c.in-Some.ensures in search open_impl
 
 pub returns-in_default-over : goal.returns-in_default-over
-returns-in_default-over c = search open_other
-
-pub put_in-requires-clause-arena : goal.put_in-requires-clause-arena
-put_in-requires-clause-arena c = search loaded_arena
-
-pub put_in-requires-clause-n_lt_count : goal.put_in-requires-clause-n_lt_count
-put_in-requires-clause-n_lt_count c = all_in c.args.props.now _ c.args.wanted _ _ _ c.over.ensures c.in-Over.is
-
-pub put_in-requires-clause-left_bound : goal.put_in-requires-clause-left_bound
-put_in-requires-clause-left_bound c = search loaded_left
+returns-in_default-over c =
+    let none = rw c.held-held.ensures.room at c.in_default.ensures in
+    let bare = rw c.held-held.ensures.room at c.in_default-over.ensures in
+    search open_other
 
 pub grown-requires : goal.grown-requires
-grown-requires c = let a = c.args in let b = c.in-Over.body.0 in let q = c.in-At.is in (put_more a.file.now a.props.now c.put_in.new.props c.count_of-count.result c.left_of.result b a.i.0 a.st c.put_in.result c.count_of-count.ensures c.left_of.ensures c.put_in.ensures _ _ q, put_few a.file.now a.props.now c.put_in.new.props c.count_of-count.result c.left_of.result b a.i.0 a.st c.put_in.result c.count_of-count.ensures c.left_of.ensures c.put_in.ensures _ _ q (search rules))
+grown-requires c = let q = c.in_ok-body.ensures.ok_part in (search put_more, search put_few)
 
-pub returns-in-Full : goal.returns-in-Full
-returns-in-Full c = search open_full
+pub returns-in_err-body : goal.returns-in_err-body
+returns-in_err-body c =
+    let p = err_from_is_err_and c.from_residual.result c.from_residual.ensures.1 in
+    let no = ok_or_err c.in_err-body.ensures.value in
+    let none = rw c.held-held.ensures.room at c.in_default.ensures in
+    let is_all = rw c.held-held.ensures.room at c.in-Some-over.ensures in
+    let full = rw no.0 at c.put_in.ensures in
+    let at = no.1 ∙ c.at-2.ensures in
+    rw (p.1, p.2) (search open_full)
 
-pub returns-in-At : goal.returns-in-At
-returns-in-At c = search open_forall
+pub returns : goal.returns
+returns c =
+    let none = rw c.held-held.ensures.room at c.in_default.ensures in
+    let is_all = rw c.held-held.ensures.room at c.in-Some-over.ensures in
+    let put_in = rw c.in_ok-body.ensures.ok_part at c.put_in.ensures in
+    search open_forall

@@ -1,4 +1,4 @@
-use Rattle.table.proofs.Chains.{descent_start, descent_fits, descent_step, descent_end}
+use Rattle.table.proofs.Chains.{descent_start, descent_fits, descent_step}
 use Rattle.table.proofs.above.find_above.Goals as goal
 
 pub loop-n-init : goal.loop-n-init
@@ -9,6 +9,3 @@ note_children-requires c = search descent_fits
 
 pub loop-n-preserved : goal.loop-n-preserved
 loop-n-preserved c = search descent_step
-
-pub returns : goal.returns
-returns c = search descent_end

@@ -3,6 +3,3 @@ use Rattle.table.proofs.above.find_above.Given as goal
 
 abbrev pub invariant-loop-n : goal.invariant-loop-n
 invariant-loop-n l = Descent l.file l.n l.initial.work l.work
-
-abbrev pub decreases-loop-n : goal.decreases-loop-n
-decreases-loop-n l = l.n

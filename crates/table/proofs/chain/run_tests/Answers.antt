@@ -1,15 +1,9 @@
-use Rattle.table.specs.Tests.{tests}
-use Rattle.table.proofs.Headers.{header_length}
-use Rattle.table.proofs.Verdicts.{fails, goes_on}
+use Rattle.std.proofs.Common.{arith}
+use Rattle.std.proofs.lemmas.Grind.{common_steps}
+use Rattle.table.specs.Tests.{unless}
+use Rattle.table.proofs.Headers.{counted}
 use Rattle.table.proofs.chain.run_tests.Goals as goal
 
-pub returns-then-not-well_marked : goal.returns-then-not-well_marked
-unfolding tests
-returns-then-not-well_marked c = search fails
-
-pub from_counts-requires-clause-in_bounds : goal.from_counts-requires-clause-in_bounds
-from_counts-requires-clause-in_bounds c = search header_length
-
-pub returns : goal.returns
-unfolding tests
-returns c = search goes_on
+pub formless-requires : goal.formless-requires
+unfolding unless
+formless-requires c = counted _ (grind (arith, common_steps))

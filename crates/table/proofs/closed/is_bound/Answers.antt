@@ -1,8 +1,6 @@
-use Rattle.table.proofs.Chains.{free_found, bound_found}
+use mathlib.Core.Path.{◌∙◌}
+use Rattle.table.proofs.Chains.{some_bound}
 use Rattle.table.proofs.closed.is_bound.Goals as goal
 
-pub returns-in-Free : goal.returns-in-Free
-returns-in-Free c = search free_found
-
-pub returns-in-Bound : goal.returns-in-Bound
-returns-in-Bound c = search bound_found
+pub returns : goal.returns
+returns c = c.is_some.ensures ∙ some_bound _ _ _ c.settle.ensures

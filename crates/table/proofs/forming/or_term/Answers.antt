@@ -1,22 +1,16 @@
-use Rattle.numbers.specs.Limits.{most_terms}
-use mathlib.Core.Path.{subst}
-use native.Mathlib.Omega.{arith}
-use Rattle.table.specs.declared.Guilty.{Guilty}
-use Rattle.table.specs.Tests.{AtMost}
+use Rattle.std.proofs.Common.{◌≡◌, ℕ, ◌+◌, Option, Some, None, rules, refl, ◌∙◌}
+use Rattle.std.specs.Option.{option_or, option_map}
 use Rattle.table.specs.Tests.{or_term}
 use Rattle.table.proofs.forming.or_term.Goals as goal
 
-pub overflow_add-result : goal.overflow_add-result
-overflow_add-result c = omega (arith, subst (λ (g : Guilty). AtMost most_terms g) c.in-At-h.is c.requires.at_most)
-
-pub returns-in-At : goal.returns-in-At
+-- as the library's methods say it
+or_map : (g : Option ℕ) (p : ℕ) (h : Option ℕ) → option_or g (option_map (λ t. p + t) h) ≡ or_term g p h
 unfolding or_term
-returns-in-At c = cc
+or_map (Some n) p h = refl
+or_map None p (Some t) = refl
+or_map None p None = refl
 
-pub returns-in-At-h : goal.returns-in-At-h
-unfolding or_term
-returns-in-At-h c = cc
-
-pub returns-in-Nobody-h : goal.returns-in-Nobody-h
-unfolding or_term
-returns-in-Nobody-h c = cc
+pub returns : goal.returns
+returns c =
+    let e : c.or.result ≡ option_or c.args.g (option_map (λ t. c.args.p + t) c.args.h) = search rules in
+    e ∙ or_map c.args.g c.args.p c.args.h

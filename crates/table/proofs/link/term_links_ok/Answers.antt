@@ -1,4 +1,5 @@
 use mathlib.Core.Path.{ap, ◌∙◌}
+use Rattle.std.proofs.Math.Bool.{and_assoc}
 use mathlib.Core.Bool.{◌&&◌}
 use lib.Dec.{ltb}
 use Rattle.layout.specs.declared.form.TermShape.{TermShape}
@@ -12,4 +13,4 @@ returns c =
     let s = c.term_shape-s in
     let e = children_test (λ m. ltb a.t m && ltb m a.count) s.result.children a.r
     ∙ ap (λ (k : TermShape). all_links (λ m. ltb a.t m && ltb m a.count) (term_children k.children a.r)) s.ensures in
-    cc
+    cc (and_assoc c.child_ok.result c.child_ok-2.result c.child_ok-3.result)

@@ -3,7 +3,7 @@ use Rattle.layout.specs.declared.record.TermRecord.{TermRecord}
 use Rattle.layout.specs.File.{as_term}
 use mathlib.Core.Path.{◌≡◌, ap, subst, ◌∙◌}
 use mathlib.Core.List.{List}
-use Prim.Native.Nat.{ℕ, ◌+◌, ◌≤◌}
+use Prim.Native.Nat.{ℕ, ◌+◌}
 use native.Mathlib.Omega.{arith}
 use Rattle.layout.specs.File.{term_record}
 use Rattle.table.specs.Links.{hits, sum, annotation}
@@ -11,14 +11,11 @@ use Rattle.table.specs.Naming.{Names}
 use Rattle.table.proofs.Namings.{names_same, names_start, names_step, annotation_hits}
 use Rattle.table.proofs.naming.by_annotations.Goals as goal
 
-all : (n p : ℕ) → n ≤ p → p ≤ n → n ≡ p
-all n p a b = omega arith
-
 abbrev named : List ℕ → ℕ → ℕ → ℕ
 named l j m = hits j (annotation (term_record l m))
 
 pub loop-t-init : goal.loop-t-init
-loop-t-init c = (names_start _ _ _ _, omega arith)
+loop-t-init c = names_start _ _ _ _
 
 pub loop-t-preserved : goal.loop-t-preserved
 loop-t-preserved c =
@@ -26,13 +23,10 @@ loop-t-preserved c =
     let file = a.file.now in
     let r = c.term_at-r.result in
     let e : r ≡ term_record file c.loop-t.t = c.term_at-r.ensures ∙ ap (λ (k : ℕ). as_term (record_at file (k + c.loop-t.t + 1))) c.requires.0 in
-    (names_step 0 a.p c.loop-t.t (named file) c.loop-t.invariant.0 (names_same c.name.ensures (λ j. annotation_hits r.tag r.typ j ∙ ap (λ (r : TermRecord). hits j (annotation r)) e)), omega arith)
-
-pub shape_of-work : goal.shape_of-work
-shape_of-work c = c.loop-t.invariant.0.size
+    names_step 0 a.p c.loop-t.t (named file) c.loop-t.invariant (names_same c.name.ensures (λ j. annotation_hits r.tag r.typ j ∙ ap (λ (r : TermRecord). hits j (annotation r)) e))
 
 pub returns : goal.returns
 returns c =
     let a = c.args in
     let h = c.loop-t in
-    subst (λ (k : ℕ). Names 0 a.p (λ j. sum (named a.file.now j) k) a.work.now h.work) (all h.t a.count h.invariant.1 c.loop-t-test.false) h.invariant.0
+    subst (λ (k : ℕ). Names 0 a.p (λ j. sum (named a.file.now j) k) a.work.now h.work) (omega arith) h.invariant

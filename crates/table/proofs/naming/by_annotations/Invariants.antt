@@ -1,5 +1,5 @@
 use mathlib.Core.List.{List}
-use Prim.Native.Nat.{ℕ, ◌≤◌, ◌-◌}
+use Prim.Native.Nat.{ℕ}
 use Rattle.layout.specs.File.{term_record}
 use Rattle.table.specs.Links.{hits, sum, annotation}
 use Rattle.table.specs.Naming.{Names}
@@ -9,7 +9,4 @@ abbrev named : List ℕ → ℕ → ℕ → ℕ
 named l j m = hits j (annotation (term_record l m))
 
 abbrev pub invariant-loop-t : goal.invariant-loop-t
-invariant-loop-t l = Names 0 l.p (λ j. sum (named l.file j) l.t) l.initial.work l.work × (l.t ≤ l.count)
-
-abbrev pub decreases-loop-t : goal.decreases-loop-t
-decreases-loop-t l = l.count - l.t
+invariant-loop-t l = Names 0 l.p (λ j. sum (named l.file j) l.t) l.initial.work l.work

@@ -1,7 +1,7 @@
 use Rattle.numbers.specs.declared.record.Record.{Record}
 use mathlib.Core.Path.{◌≡◌, ap, subst}
 use mathlib.Core.List.{List}
-use Prim.Native.Nat.{ℕ, ◌≤◌}
+use Prim.Native.Nat.{ℕ}
 use native.Mathlib.Omega.{arith}
 use Rattle.layout.specs.File.{prop_record}
 use Rattle.table.specs.Links.{hits, sum, prop_links}
@@ -9,14 +9,11 @@ use Rattle.table.specs.Naming.{Names}
 use Rattle.table.proofs.Namings.{names_same, names_start, names_step}
 use Rattle.table.proofs.naming.by_propositions.Goals as goal
 
-all : (n p : ℕ) → n ≤ p → p ≤ n → n ≡ p
-all n p a b = omega arith
-
 abbrev named : List ℕ → ℕ → ℕ → ℕ
 named l j m = hits j (prop_links (prop_record l m))
 
 pub loop-n-init : goal.loop-n-init
-loop-n-init c = (names_start _ _ _ _, omega arith)
+loop-n-init c = names_start _ _ _ _
 
 pub loop-n-preserved : goal.loop-n-preserved
 loop-n-preserved c =
@@ -24,13 +21,10 @@ loop-n-preserved c =
     let file = a.file.now in
     let r = c.proposition_at-r.result in
     let e : r ≡ prop_record file c.loop-n.n = c.proposition_at-r.ensures in
-    (names_step 0 a.p c.loop-n.n (named file) c.loop-n.invariant.0 (names_same c.name_children.ensures (λ j. ap (λ (r : Record). hits j (prop_links r)) e)), omega arith)
-
-pub shape_of-work : goal.shape_of-work
-shape_of-work c = c.loop-n.invariant.0.size
+    names_step 0 a.p c.loop-n.n (named file) c.loop-n.invariant (names_same c.name_children.ensures (λ j. ap (λ (r : Record). hits j (prop_links r)) e))
 
 pub returns : goal.returns
 returns c =
     let a = c.args in
     let h = c.loop-n in
-    subst (λ (k : ℕ). Names 0 a.p (λ j. sum (named a.file.now j) k) a.work.now h.work) (all h.n a.p h.invariant.1 c.loop-n-test.false) h.invariant.0
+    subst (λ (k : ℕ). Names 0 a.p (λ j. sum (named a.file.now j) k) a.work.now h.work) (omega arith) h.invariant

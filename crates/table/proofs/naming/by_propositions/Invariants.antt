@@ -1,5 +1,5 @@
 use mathlib.Core.List.{List}
-use Prim.Native.Nat.{ℕ, ◌≤◌, ◌-◌}
+use Prim.Native.Nat.{ℕ}
 use Rattle.layout.specs.File.{prop_record}
 use Rattle.table.specs.Links.{hits, sum, prop_links}
 use Rattle.table.specs.Naming.{Names}
@@ -9,7 +9,4 @@ abbrev named : List ℕ → ℕ → ℕ → ℕ
 named l j m = hits j (prop_links (prop_record l m))
 
 abbrev pub invariant-loop-n : goal.invariant-loop-n
-invariant-loop-n l = Names 0 l.p (λ j. sum (named l.file j) l.n) l.initial.work l.work × (l.n ≤ l.p)
-
-abbrev pub decreases-loop-n : goal.decreases-loop-n
-decreases-loop-n l = l.p - l.n
+invariant-loop-n l = Names 0 l.p (λ j. sum (named l.file j) l.n) l.initial.work l.work

@@ -1,5 +1,0 @@
-use Rattle.prop.proofs.Places.{all_pass}
-use Rattle.arena.proofs.resolve.atom_known.Goals as goal
-
-pub returns : goal.returns
-returns c = search all_pass

@@ -1,4 +1,0 @@
-use Rattle.prop.proofs.size.+nodes_of.Given as goal
-
-abbrev pub decreases-nodes_of : goal.decreases-nodes_of
-decreases-nodes_of l = l.n.0

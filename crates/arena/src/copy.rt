@@ -114,7 +114,7 @@ fn change_atom<C: Change>(r: Record, d: u16, change: C) -> Record
     with_parameters(r, p, q, s, t)
 }
 
-// One record more.
+// One record more. (The room is written, so it goes with its count beside it: a struct that holds a `&mut` has each contract say that the reference stays.)
 pub fn one_more(props: &mut [u8], count: u16, r: Record) -> Copied
     requires count_lt_most_records { count < most_records }
     requires most_records_in_bounds { 16 * most_records ≤ length props.old }

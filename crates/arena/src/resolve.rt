@@ -64,7 +64,7 @@ impl<'a> Test for Known<'a> {
     }
 }
 
-// All names in a proposition are known.
+// All names in a proposition are known. (The work room is C's and holds more than the entries, so their number goes beside it.)
 #[tactic(auto, unfolding(crate::specs::Resolve::all_known))]
 fn all_known(held: Propositions<'_>, n: Proposition, work: &[u8], len: usize) -> bool
     requires n_lt_count { n.0 < held.count }

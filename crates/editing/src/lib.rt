@@ -1,4 +1,4 @@
-// Floor 2, above the tests: the edited table, which is the old one with a filling in the place of a Sorry record.
+// Floor 2, above the tests: the edited table, which is the old one with a filling in the place of a Sorry record. (`as usize`: as in `table`.)
 #![tactic(auto)]
 
 ghost use Rattle.std.specs.Prelude.{◌≡◌, ℕ, ◌+◌, ◌*◌, ◌<◌, ◌≤◌, length};

@@ -7,7 +7,7 @@ ghost use Rattle.editing.specs.Copied.{PropMoves, TermMoves};
 use layout::form::{prop_shape, term_shape};
 use numbers::record::Record;
 
-// A field moves where it is a link.
+// A field moves where it is a link. (A flag beside the field: an Option would be made only to be taken apart at once.)
 fn moved(link: bool, field: u16, by: u16) -> u16
     requires { (by ≤ most_propositions) × (link ≡ true → field ≤ most_propositions) }
     ensures { result ≡ cond link (by + field) field }

@@ -1,6 +1,6 @@
 -- From the run to the mark. Assumes nothing.
 use mathlib.Core.Path.{◌≡◌, refl, ap, ap₂, sym, subst, subst⁻¹, ◌∙◌}
-use mathlib.Core.Bool.{Bool, true, false, ◌&&◌, cond}
+use mathlib.Core.Bool.{Bool, true, false, cond}
 use mathlib.Core.List.{List, ◌++◌}
 use Prim.Native.Nat.{ℕ, ◌+◌, ◌*◌, ◌≤◌}
 use native.Mathlib.Omega.{arith}
@@ -204,3 +204,10 @@ module _ (l : List ℕ) (m : Mark) (R S : Rooms) (long : long_enough R ≡ true)
 pub marks_short : (l : List ℕ) (R R' : Rooms) (x : Refusal) → long_enough R ≡ false → Emptied R R' → x ≡ refusal_at 1 0 → Marks l R R' (Err x)
 unfolding outcome
 marks_short l R R' x short z e = subst⁻¹ (λ (b : Bool). MarkedAs l R R' (cond b (table_run l) (refused 1 0)) (Err x)) short (ap Err e, z)
+
+-- short rooms, told one by one
+pub left_short : {t g p w t' g' p' w' : List ℕ} → t' ≡ t → g' ≡ g → p' ≡ p → w' ≡ w → (l : List ℕ) (R : Rooms) (m : Mark) → Marks l R (rooms t g p w) m → Marks l R (rooms t' g' p' w') m
+left_short {t} {g} {p} {w} {t'} {g'} {p'} {w'} et eg ep ew l R m h =
+    subst⁻¹ (λ (x : List ℕ). Marks l R (rooms x g' p' w') m) et
+    (subst⁻¹ (λ (x : List ℕ). Marks l R (rooms t x p' w') m) eg
+    (subst⁻¹ (λ (x : List ℕ). Marks l R (rooms t g x w') m) ep (subst⁻¹ (λ (x : List ℕ). Marks l R (rooms t g p x) m) ew h)))

@@ -4,6 +4,7 @@
 
 ghost use Rattle.std.specs.Prelude.{◌≡◌, Err};
 ghost use Rattle.step.specs.Rooms.{rooms};
+ghost use Rattle.step.specs.Lent.{held, SameLent};
 ghost use Rattle.entry.specs.Mark.{table_run, Emptied, MarkedAs, Marks};
 ghost use Rattle.entry.specs.Ran.{Exact, RanAs, counted_in};
 
@@ -12,6 +13,7 @@ use layout::header::expected_field;
 use numbers::refusal::{Reason, Refusal};
 use numbers::{Sort, Term};
 use rooms::{GOALS, PROPOSITIONS, TREE, WORK, clear_rest, clear_rooms, long_enough};
+use step::lent::Lent;
 use step::state::{Answer, State};
 use table::{Purpose, test_table};
 
@@ -40,25 +42,16 @@ impl From<State> for Counts {
 }
 
 // The run of a table: its tests, and where it passes them its root, held to what it expects, with nothing made yet and an empty context.
-fn run(
-    file: &[u8],
-    tree: &mut [u8],
-    goals: &mut [u8],
-    props: &mut [u8],
-    work: &mut [u8],
-) -> Result<Answer, Refusal>
-    requires { Exact (rooms tree.old goals.old props.old work.old) }
-    ensures { RanAs file.now (table_run file.now)
-        (rooms tree.new goals.new props.new work.new) result }
+fn run(file: &[u8], lent: &mut Lent<'_>) -> Result<Answer, Refusal>
+    requires { Exact (held lent.old) }
+    ensures ran { RanAs file.now (table_run file.now) (held lent.new) result }
+    ensures same_rooms { SameLent lent.old lent.new }
 {
-    test_table(file, work, Purpose::Check)?;
-    load(file, work, props);
+    test_table(file, lent.work, Purpose::Check)?;
+    load(file, lent.work, lent.props);
     checker::check(
         file,
-        tree,
-        goals,
-        props,
-        work,
+        lent,
         Term(0),
         Sort::Proposition(expected_field(file)),
         State::START,
@@ -66,23 +59,34 @@ fn run(
 }
 
 // A refusal, with all rooms emptied.
-fn refuse(
-    tree: &mut [u8],
-    goals: &mut [u8],
-    props: &mut [u8],
-    work: &mut [u8],
-    refusal: Refusal,
-) -> Result<Counts, Refusal>
-    ensures emptied { Emptied (rooms tree.old goals.old props.old work.old)
-        (rooms tree.new goals.new props.new work.new) }
+fn refuse(lent: &mut Lent<'_>, refusal: Refusal) -> Result<Counts, Refusal>
+    ensures emptied { Emptied (held lent.old) (held lent.new) }
+    ensures same_rooms { SameLent lent.old lent.new }
     ensures answer { result ≡ Err refusal }
 {
-    clear_rooms(tree, goals, props, work);
+    clear_rooms(lent);
     Err(refusal)
 }
 
 // The mark of any bytes, in rooms of just the listed sizes, which are cleaned after the run.
-pub fn check_table(
+pub fn check_table(file: &[u8], lent: &mut Lent<'_>) -> Result<Counts, Refusal>
+    requires { Exact (held lent.old) }
+    ensures marked { MarkedAs file.now (held lent.old) (held lent.new) (table_run file.now) result }
+    ensures same_rooms { SameLent lent.old lent.new }
+{
+    match run(file, lent) {
+        Ok(answer) => {
+            let st = answer.state;
+            let count = st.count(file);
+            clear_rest(lent, st.records, st.goals, count);
+            Ok(Counts::from(st))
+        }
+        Err(e) => refuse(lent, e),
+    }
+}
+
+// The same, of rooms that come one by one. (A `Lent` made of rooms that are cut to size in it does not prove: nothing ties what is left of a cut to its field.)
+fn check_rooms(
     file: &[u8],
     tree: &mut [u8],
     goals: &mut [u8],
@@ -93,15 +97,13 @@ pub fn check_table(
     ensures { MarkedAs file.now (rooms tree.old goals.old props.old work.old)
         (rooms tree.new goals.new props.new work.new) (table_run file.now) result }
 {
-    match run(file, tree, goals, props, work) {
-        Ok(answer) => {
-            let st = answer.state;
-            let count = st.count(file);
-            clear_rest(tree, goals, props, work, st.records, st.goals, count);
-            Ok(Counts::from(st))
-        }
-        Err(e) => refuse(tree, goals, props, work, e),
-    }
+    let mut lent = Lent {
+        tree,
+        goals,
+        props,
+        work,
+    };
+    check_table(file, &mut lent)
 }
 
 // The mark of any bytes in any rooms.
@@ -116,7 +118,7 @@ pub fn check(
         (rooms tree.new goals.new props.new work.new) result }
 {
     if long_enough(tree, goals, props, work) {
-        check_table(
+        check_rooms(
             file,
             &mut tree[..TREE],
             &mut goals[..GOALS],
@@ -124,6 +126,12 @@ pub fn check(
             &mut work[..WORK],
         )
     } else {
-        refuse(tree, goals, props, work, Reason::RoomTooShort.of(0))
+        let mut lent = Lent {
+            tree,
+            goals,
+            props,
+            work,
+        };
+        refuse(&mut lent, Reason::RoomTooShort.of(0))
     }
 }

@@ -1,11 +1,13 @@
 // The lent rooms: how long they must be, and how they are left.
 ghost use Rattle.std.specs.Prelude.{◌≡◌, ◌*◌, ◌≤◌, length};
 ghost use Rattle.step.specs.Rooms.{rooms};
+ghost use Rattle.step.specs.Lent.{held, SameLent};
 ghost use Rattle.entry.specs.Mark.{tree_bytes, goals_bytes, props_bytes, work_bytes, long_enough, Emptied};
 ghost use Rattle.entry.specs.Rest.{Rest, Trimmed};
 
 use numbers::room::{clear, fill_zero};
 use numbers::{Proposition, Term};
+use step::lent::Lent;
 
 // The bytes of each room: two tree records and a goal for each term that a table may have; the table's propositions and the made ones; and the
 // work room. Longer rooms are not touched behind these.
@@ -25,14 +27,14 @@ pub fn long_enough(tree: &[u8], goals: &[u8], props: &[u8], work: &[u8]) -> bool
 }
 
 // Every room becomes zeros, as far as it goes and no further than its listed size.
-pub fn clear_rooms(tree: &mut [u8], goals: &mut [u8], props: &mut [u8], work: &mut [u8])
-    ensures { Emptied (rooms tree.old goals.old props.old work.old)
-        (rooms tree.new goals.new props.new work.new) }
+pub fn clear_rooms(lent: &mut Lent<'_>)
+    ensures emptied { Emptied (held lent.old) (held lent.new) }
+    ensures same_rooms { SameLent lent.old lent.new }
 {
-    clear(tree, TREE);
-    clear(goals, GOALS);
-    clear(props, PROPOSITIONS);
-    clear(work, WORK);
+    clear(lent.tree, TREE);
+    clear(lent.goals, GOALS);
+    clear(lent.props, PROPOSITIONS);
+    clear(lent.work, WORK);
 }
 
 // From `used` up to its listed size a room becomes zeros.
@@ -45,23 +47,15 @@ pub fn trim(room: &mut [u8], used: usize, size: usize)
 
 // What an acceptance leaves unused becomes zeros, and so does the work room.
 #[tactic(auto, unfolding(rules::specs::State::limit))]
-pub fn clear_rest(
-    tree: &mut [u8],
-    goals: &mut [u8],
-    props: &mut [u8],
-    work: &mut [u8],
-    records: u16,
-    holes: u16,
-    count: u16,
-)
-    requires records_bound { (16 * records ≤ tree_bytes) × (tree_bytes ≤ length tree.old) }
-    requires holes_bound { (8 * holes ≤ goals_bytes) × (goals_bytes ≤ length goals.old) }
-    requires count_bound { (16 * count ≤ props_bytes) × (props_bytes ≤ length props.old) }
-    ensures { Rest records holes count (rooms tree.old goals.old props.old work.old)
-        (rooms tree.new goals.new props.new work.new) }
+pub fn clear_rest(lent: &mut Lent<'_>, records: u16, holes: u16, count: u16)
+    requires records_bound { (16 * records ≤ tree_bytes) × (tree_bytes ≤ length lent.old.tree.now) }
+    requires holes_bound { (8 * holes ≤ goals_bytes) × (goals_bytes ≤ length lent.old.goals.now) }
+    requires count_bound { (16 * count ≤ props_bytes) × (props_bytes ≤ length lent.old.props.now) }
+    ensures rest { Rest records holes count (held lent.old) (held lent.new) }
+    ensures same_rooms { SameLent lent.old lent.new }
 {
-    trim(tree, 16 * (records as usize), TREE);
-    trim(goals, 8 * (holes as usize), GOALS);
-    trim(props, 16 * (count as usize), PROPOSITIONS);
-    clear(work, WORK);
+    trim(lent.tree, 16 * (records as usize), TREE);
+    trim(lent.goals, 8 * (holes as usize), GOALS);
+    trim(lent.props, 16 * (count as usize), PROPOSITIONS);
+    clear(lent.work, WORK);
 }

@@ -35,6 +35,15 @@ pub exact_kept : {t g p w e t' g' p' w' e' : List ℕ} → ExactAll (lent t g p 
 exact_kept x a b c d f =
     record { rooms = record { tree = a ∙ x.rooms.tree; goals = b ∙ x.rooms.goals; props = c ∙ x.rooms.props; work = d ∙ x.rooms.work }; edited = f ∙ x.edited }
 
+-- a refusal, its rooms told one by one
+pub left_refused : {S : Lent} {t g p w e t' g' p' w' : List ℕ} {z : Refusal} {k : Which} {r : Filled} → t' ≡ t → g' ≡ g → p' ≡ p → w' ≡ w → Refuses S (lent t g p w e) z k r → Refuses S (lent t' g' p' w' e) z k r
+left_refused et eg ep ew h =
+    record {
+      answer = h.answer;
+      rooms = record { tree = et ∙ h.rooms.tree; goals = eg ∙ h.rooms.goals; props = ep ∙ h.rooms.props; work = ew ∙ h.rooms.work };
+      edited = h.edited;
+    }
+
 -- REFUSALS AND ACCEPTANCES CARRY OVER from the rooms S to the rooms T
 pub record Carries (S S' T T' : Lent) : Type 0 where
   pub refuses : {e : Refusal} {w : Which} {r : Filled} → Refuses S S' e w r → Refuses T T' e w r

@@ -12,6 +12,8 @@ use Rattle.table.specs.declared.Purpose.TheVariants as purpose
 use Rattle.table.specs.Tests.{tests}
 use Rattle.table.specs.Reading.{term_at}
 use Rattle.editing.specs.Edited.{edited_bytes, Bytes, Edited, edited_tests}
+use Rattle.step.specs.declared.lent.Lent.{Lent as Four}
+use Rattle.step.specs.Lent.{held}
 use Rattle.step.specs.Rooms.{Rooms, rooms}
 use Rattle.step.specs.Contract.{told}
 use Rattle.entry.specs.declared.Counts.{Counts}
@@ -27,6 +29,9 @@ pub record Lent : Type 0 where
 
 abbrev pub lent : (tree goals props work edited : List ℕ) → Lent
 lent t g p w e = record { rooms = rooms t g p w; edited = e }
+
+abbrev pub beside : Four → List ℕ → Lent
+beside l e = record { rooms = held l; edited = e }
 
 unfoldable pub all_long : Lent → Bool
 all_long S = long_enough S.rooms && leb edited_bytes (length S.edited)

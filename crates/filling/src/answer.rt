@@ -1,5 +1,6 @@
 // What filling a goal answers.
-ghost use Rattle.filling.specs.Fill.{lent, Refuses};
+ghost use Rattle.step.specs.Lent.{SameLent};
+ghost use Rattle.filling.specs.Fill.{beside, Refuses};
 
 use editing::EDITED;
 use entry::Counts;
@@ -7,6 +8,7 @@ use entry::rooms::clear_rooms;
 use numbers::refusal::Refusal;
 use numbers::room::clear;
 use std::fmt;
+use step::lent::Lent;
 
 // The table that a refusal's place is in, under its number for callers in C.
 #[derive(Clone, Copy, Debug, PartialEq, Eq)]
@@ -40,18 +42,15 @@ pub struct Rejection {
 
 // A refusal, with all rooms emptied.
 pub fn refuse(
-    tree: &mut [u8],
-    goals: &mut [u8],
-    props: &mut [u8],
-    work: &mut [u8],
+    lent: &mut Lent<'_>,
     edited: &mut [u8],
     refusal: Refusal,
     which: Which,
 ) -> Result<Counts, Rejection>
-    ensures { Refuses (lent tree.old goals.old props.old work.old edited.old)
-        (lent tree.new goals.new props.new work.new edited.new) refusal which result }
+    ensures done { Refuses (beside lent.old edited.old) (beside lent.new edited.new) refusal which result }
+    ensures same_rooms { SameLent lent.old lent.new }
 {
-    clear_rooms(tree, goals, props, work);
+    clear_rooms(lent);
     clear(edited, EDITED);
     Err(Rejection { refusal, which })
 }

@@ -1,12 +1,14 @@
-// Floor 7: filling a goal. The old table and its check, the filling's tests, the edited table, and the filling's run from what was known at the hole.
-// Refusals come in document 01's order.
+// Floor 8: filling a goal. The old table and its check, the filling's tests, the edited table, and the filling's run from what was known at the hole.
+// Refusals come in document 01's order. (The old table, the goal, the filling, its hole, the rooms: each is another thing, and the rooms of C come
+// one by one.)
 #![tactic(auto)]
 
-ghost use Rattle.std.specs.Prelude.{◌≡◌};
+ghost use Rattle.std.specs.Prelude.{◌≡◌, ◌+◌, ◌*◌, ◌≤◌, length};
+ghost use Rattle.step.specs.Trees.{goal_at};
 ghost use Rattle.editing.specs.Edited.{Fillable};
-ghost use Rattle.step.specs.Rooms.{rooms};
+ghost use Rattle.step.specs.Lent.{held, SameLent};
 ghost use Rattle.entry.specs.Mark.{table_run};
-ghost use Rattle.filling.specs.Fill.{lent, all_long, OldAs, Fills};
+ghost use Rattle.filling.specs.Fill.{beside, lent, all_long, OldAs, Fills};
 ghost use Rattle.filling.specs.Steps.{ExactAll, OldRan, HoleAt, FillsHole, FillsGoal};
 
 use answer::{Rejection, Which, refuse};
@@ -16,7 +18,8 @@ use entry::{Counts, check_table};
 use numbers::Term;
 use numbers::refusal::Reason;
 use run::run_filling;
-use step::node::goal_at;
+use step::lent::Lent;
+use step::node::{Goal, goal_at};
 use table::{Purpose, test_table};
 
 pub mod answer;
@@ -29,27 +32,29 @@ fn fill_hole(
     goal: u16,
     filling: &[u8],
     hole: Term,
-    tree: &mut [u8],
-    goals: &mut [u8],
-    props: &mut [u8],
-    work: &mut [u8],
+    lent: &mut Lent<'_>,
     edited: &mut [u8],
 ) -> Result<Counts, Rejection>
     requires fillable { Fillable old.now filling.now hole.0 }
     requires hole_at { HoleAt old.now goal hole.0 }
-    requires exact_all { ExactAll (lent tree.old goals.old props.old work.old edited.old) }
-    ensures { FillsHole (lent tree.old goals.old props.old work.old edited.old)
-        (lent tree.new goals.new props.new work.new edited.new) old.now
-        filling.now goal result }
+    requires exact_all { ExactAll (beside lent.old edited.old) }
+    ensures done { FillsHole (beside lent.old edited.old) (beside lent.new edited.new) old.now filling.now goal result }
+    ensures same_rooms { SameLent lent.old lent.new }
 {
     let size = edited_size(old, filling);
     edit(old, filling, hole, &mut edited[..size]);
-    if let Err(e) = test_edited(&edited[..size], work) {
-        return refuse(tree, goals, props, work, edited, e, Which::Edit);
+    if let Err(e) = test_edited(&edited[..size], lent.work) {
+        return refuse(lent, edited, e, Which::Edit);
     }
-    run_filling(
-        old, goal, filling, hole, tree, goals, props, work, edited, size,
-    )
+    run_filling(old, goal, filling, hole, lent, edited, size)
+}
+
+// A goal of the tree that the rooms hold.
+fn goal_in(lent: &Lent<'_>, goal: u16) -> Goal
+    requires { 8 * goal + 8 ≤ length lent.now.goals.now }
+    ensures { result ≡ goal_at lent.now.goals.now goal }
+{
+    goal_at(lent.goals, goal)
 }
 
 // The old table was accepted with so many goals.
@@ -57,32 +62,46 @@ fn fill_goal(
     old: &[u8],
     goal: u16,
     filling: &[u8],
-    tree: &mut [u8],
-    goals: &mut [u8],
-    props: &mut [u8],
-    work: &mut [u8],
+    lent: &mut Lent<'_>,
     edited: &mut [u8],
     count: u16,
 ) -> Result<Counts, Rejection>
-    requires old_ran { OldRan old.now (rooms tree.old goals.old props.old work.old) count }
-    requires exact_all { ExactAll (lent tree.old goals.old props.old work.old edited.old) }
-    ensures { FillsGoal (lent tree.old goals.old props.old work.old edited.old)
-        (lent tree.new goals.new props.new work.new edited.new) old.now
-        filling.now goal result }
+    requires old_ran { OldRan old.now (held lent.old) count }
+    requires exact_all { ExactAll (beside lent.old edited.old) }
+    ensures done { FillsGoal (beside lent.old edited.old) (beside lent.new edited.new) old.now filling.now goal result }
+    ensures same_rooms { SameLent lent.old lent.new }
 {
-    if let Err(e) = test_table(filling, work, Purpose::Filling) {
-        return refuse(tree, goals, props, work, edited, e, Which::Filling);
+    if let Err(e) = test_table(filling, lent.work, Purpose::Filling) {
+        return refuse(lent, edited, e, Which::Filling);
     }
     if count <= goal {
         let e = Reason::NoSuchGoal.of(0);
-        return refuse(tree, goals, props, work, edited, e, Which::Old);
+        return refuse(lent, edited, e, Which::Old);
     }
-    let hole = goal_at(goals, goal).term;
-    fill_hole(old, goal, filling, hole, tree, goals, props, work, edited)
+    let hole = goal_in(lent, goal).term;
+    fill_hole(old, goal, filling, hole, lent, edited)
 }
 
 // Any tables, in rooms of just the listed sizes.
 fn fill_table(
+    old: &[u8],
+    goal: u16,
+    filling: &[u8],
+    lent: &mut Lent<'_>,
+    edited: &mut [u8],
+) -> Result<Counts, Rejection>
+    requires { ExactAll (beside lent.old edited.old) }
+    ensures done { OldAs (beside lent.old edited.old) (beside lent.new edited.new) old.now filling.now goal result (table_run old.now) }
+    ensures same_rooms { SameLent lent.old lent.new }
+{
+    match check_table(old, lent) {
+        Ok(counts) => fill_goal(old, goal, filling, lent, edited, counts.goals),
+        Err(e) => refuse(lent, edited, e, Which::Old),
+    }
+}
+
+// The same, of rooms that come one by one. (A `Lent` made of rooms that are cut to size in it does not prove: nothing ties what is left of a cut to its field.)
+fn fill_rooms(
     old: &[u8],
     goal: u16,
     filling: &[u8],
@@ -97,20 +116,13 @@ fn fill_table(
         (lent tree.new goals.new props.new work.new edited.new) old.now
         filling.now goal result (table_run old.now) }
 {
-    match check_table(old, tree, goals, props, work) {
-        Ok(counts) => fill_goal(
-            old,
-            goal,
-            filling,
-            tree,
-            goals,
-            props,
-            work,
-            edited,
-            counts.goals,
-        ),
-        Err(e) => refuse(tree, goals, props, work, edited, e, Which::Old),
-    }
+    let mut lent = Lent {
+        tree,
+        goals,
+        props,
+        work,
+    };
+    fill_table(old, goal, filling, &mut lent, edited)
 }
 
 // Whether each room is as long as is listed, that of the edited table too.
@@ -138,7 +150,7 @@ pub fn fill(
         filling.now goal result }
 {
     if all_long(tree, goals, props, work, edited) {
-        fill_table(
+        fill_rooms(
             old,
             goal,
             filling,
@@ -150,6 +162,12 @@ pub fn fill(
         )
     } else {
         let e = Reason::RoomTooShort.of(0);
-        refuse(tree, goals, props, work, edited, e, Which::Old)
+        let mut lent = Lent {
+            tree,
+            goals,
+            props,
+            work,
+        };
+        refuse(&mut lent, edited, e, Which::Old)
     }
 }

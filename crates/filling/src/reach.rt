@@ -2,7 +2,7 @@
 ghost use Rattle.std.specs.Prelude.{◌≡◌};
 ghost use Rattle.table.specs.Passing.{Counted};
 ghost use Rattle.editing.specs.Edited.{Fillable, Edited};
-ghost use Rattle.step.specs.Rooms.{rooms};
+ghost use Rattle.step.specs.Lent.{held, SameLent};
 ghost use Rattle.entry.specs.Ran.{Exact};
 ghost use Rattle.filling.specs.Steps.{HoleAt, Reached};
 
@@ -10,6 +10,7 @@ use arena::load::load;
 use editing::{put_term, term_record};
 use layout::header::expected_field;
 use numbers::{Sort, Term};
+use step::lent::Lent;
 use step::picture::{Start, recall};
 use step::state::State;
 
@@ -19,20 +20,17 @@ pub fn reach(
     goal: u16,
     filling: &[u8],
     hole: Term,
-    tree: &mut [u8],
-    goals: &mut [u8],
-    props: &mut [u8],
-    work: &mut [u8],
+    lent: &mut Lent<'_>,
     table: &mut [u8],
 ) -> Start
     requires fillable { Fillable old.now filling.now hole.0 }
     requires hole_at { HoleAt old.now goal hole.0 }
     requires edited { Edited old.now filling.now hole.0 table.old × Counted table.old }
-    requires exact { Exact (rooms tree.old goals.old props.old work.old) }
-    ensures { (table.new ≡ table.old) × Reached old.now goal table.old
-        (rooms tree.new goals.new props.new work.new) result }
+    requires exact { Exact (held lent.old) }
+    ensures done { (table.new ≡ table.old) × Reached old.now goal table.old (held lent.new) result }
+    ensures same_rooms { SameLent lent.old lent.new }
 {
-    load(table, work, props);
+    load(table, lent.work, lent.props);
     let root = term_record(table, hole);
     put_term(table, hole, term_record(old, hole));
     let wanted = Sort::Proposition(expected_field(table));
@@ -40,7 +38,7 @@ pub fn reach(
         asked: goal,
         ..State::START
     };
-    let _ = checker::check(table, tree, goals, props, work, Term(0), wanted, start);
+    let _ = checker::check(table, lent, Term(0), wanted, start);
     put_term(table, hole, root);
-    recall(work)
+    recall(lent.work)
 }

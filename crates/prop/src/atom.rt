@@ -28,7 +28,7 @@ fn number_at(r: Record, i: u8) -> u16
     r.parameters[usize::from(i.min(3))]
 }
 
-// Place i of the atom r: 0 to 3.
+// Place i of the atom r: 0 to 3. (The kinds are numbers in two bits of the record, which nothing else reads.)
 #[tactic(auto, unfolding(crate::specs::Atom::parameter_at, crate::specs::Room::param))]
 pub fn parameter_at(r: Record, i: u8) -> Parameter
     ensures { result ≡ parameter_at r i }
@@ -63,6 +63,7 @@ impl Parameter {
         }
     }
 
+    // (A match: the number is of another type in each variant.)
     fn number(self) -> u16
         ensures { result ≡ number_in self }
     {

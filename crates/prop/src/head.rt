@@ -1,5 +1,5 @@
 // A type taken apart at its head, as the rules ask: the two parts of And, Or and Impl, the datatype and the body of ForAll and Exists; or it is no such one.
-ghost use Rattle.std.specs.Prelude.{◌≡◌, true, ℕ};
+ghost use Rattle.std.specs.Prelude.{◌≡◌, true, cond, ℕ};
 ghost use Rattle.rules.specs.Prop.{const, made, prop, eq};
 ghost use Rattle.layout.specs.File.{linked, quantified, prop_kind};
 ghost use Rattle.prop.specs.Room.{type_at, TypeIn};
@@ -18,6 +18,7 @@ pub enum Link {
 }
 
 impl Link {
+    // (A match: the kinds are the constants of `node`.)
     #[tactic(auto, unfolding(layout::specs::File::prop_kind, layout::specs::File::prop_kinds))]
     pub fn kind(self) -> u8
         ensures { prop_kind result ≡ linked (link_of self) }
@@ -38,6 +39,7 @@ pub enum Quant {
 }
 
 impl Quant {
+    // (A match, as for `Link`.)
     #[tactic(auto, unfolding(layout::specs::File::prop_kind, layout::specs::File::prop_kinds))]
     fn kind(self) -> u8
         ensures { prop_kind result ≡ quantified (quant_of self) }
@@ -111,4 +113,11 @@ impl Propositions<'_> {
         let r = self.at(n);
         r.kind == TRUE
     }
+}
+
+// Of two parts, the first or the second.
+pub fn part(first: bool, a: Proposition, b: Proposition) -> Proposition
+    ensures { result ≡ cond first a b }
+{
+    if first { a } else { b }
 }

@@ -1,5 +1,5 @@
-// A record of the propositions room, and the kinds of propositions. The kinds stay bytes: document 01's form matches the kind byte, with ranges. Walks
-// over the trees match a `View`.
+// A record of the propositions room, and the kinds of propositions. The kinds stay bytes: document 01's form matches the kind byte, with ranges. The
+// walks that ask only for parts and atoms match a `View`.
 ghost use Rattle.std.specs.Prelude.{◌≡◌, ◌<◌};
 ghost use Rattle.numbers.specs.Records.{record_at};
 ghost use Rattle.prop.specs.View.{ViewIs};

@@ -25,7 +25,7 @@ pub fn check(file: &[u8], props: &[u8], k: Term, wanted: Sort, st: State) -> Res
         return Err(Reason::CheckWrongTerm.at(k));
     };
     let r = term_record(file, k);
-    // 7 is OrLeft.
+    // 7 is OrLeft: the kind byte, as in document 01's form.
     let (rule, part) = if r.kind == 7 {
         (Inference::OrIntroFst, parts.left)
     } else {

@@ -35,7 +35,7 @@ pub fn part(file: &[u8], tree: &mut [u8], props: &[u8], f: Rule, a: Answer) -> R
         return Err(Reason::SynthWrongHead.at(f.term));
     };
     let r = term_record(file, f.term);
-    // 2 is ProjectFst.
+    // 2 is ProjectFst: the kind byte, as in document 01's form.
     let (rule, part) = if r.kind == 2 {
         (Inference::AndElimFst, parts.left)
     } else {

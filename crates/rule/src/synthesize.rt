@@ -11,6 +11,7 @@ use numbers::Term;
 use numbers::refusal::{Reason, Refusal};
 use step::state::{State, Want, term_record};
 
+// A match on the kind byte: document 01's form.
 pub fn begin(
     file: &[u8],
     tree: &mut [u8],

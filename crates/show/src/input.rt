@@ -12,7 +12,7 @@ use std::{fs, io};
 // length, so tests 2 and 3 answer the same.
 pub const LONGEST: usize = 65536;
 
-// One read. It puts nothing there at the input's end, and where it fails.
+// One read. It puts nothing there at the input's end, and where it fails. (A count: who reads on needs the rest of the room.)
 fn read_some<R: Read>(from: &mut R, room: &mut [u8]) -> usize
     ensures { IsPrefixLen result room.new }
 {

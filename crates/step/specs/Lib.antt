@@ -1,4 +1,5 @@
 pub mod Rooms
+pub mod Lent
 pub mod Modes
 pub mod Trees
 pub mod Picture

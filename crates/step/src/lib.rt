@@ -3,6 +3,7 @@
 
 pub mod enter;
 pub mod inference;
+pub mod lent;
 pub mod node;
 pub mod open;
 pub mod picture;

@@ -28,7 +28,8 @@ pub struct Goal {
     pub zero: u16,
 }
 
-// A node's record: its conclusion is a proposition, or a datatype in a type judgement. Any rule number may stand in it.
+// A node's record: its conclusion is a proposition, or a datatype in a type judgement. Any rule number may stand in it. (Six parameters: they are
+// the record's fields.)
 pub fn node_record(
     rule: u8,
     term: Term,

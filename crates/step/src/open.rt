@@ -1,5 +1,5 @@
 // What a rule does between its premises: the expected function type opened, a let opened and closed, the object of a quantifier looked up, a
-// function's conclusion made.
+// function's conclusion made. (Each takes the rooms that it touches, so that its contract says of the others nothing.)
 ghost use Rattle.std.specs.Prelude.{◌≡◌, List, ℕ, ◌+◌, ◌*◌, ◌<◌, ◌≤◌, length};
 ghost use Rattle.numbers.specs.Limits.{largest};
 ghost use Rattle.rules.specs.State.{limit};
@@ -81,7 +81,7 @@ pub fn object_of(file: &[u8], work: &[u8], w: Want, t: Term, st: State) -> Resul
     ensures { (ps : List ℕ) → ObjectAs file.now ps work.now w t.0 st result }
 {
     let r = term_record(file, t);
-    // 0 is Ident.
+    // 0 is Ident: the kind byte, as in document 01's form.
     if r.kind != 0 {
         let why = w.either(Reason::CheckNoObject, Reason::SynthNoProposition);
         return Err(why.at(t));

@@ -110,7 +110,7 @@ pub enum Want {
 }
 
 impl Want {
-    // The type that a rule answers: the wanted one, else what was found.
+    // The type that a rule answers: the wanted one, else what was found. (The mode is no Option, so this is no `unwrap_or`.)
     pub fn answered(self, t: Sort) -> Sort
         ensures { result ≡ answer_of self t }
     {

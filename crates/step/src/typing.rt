@@ -1,4 +1,4 @@
-// Annotations: read, resolved, and held against what is expected.
+// Annotations: read, resolved, and held against what is expected. (Each function takes the rooms that it touches, and no others.)
 ghost use Rattle.std.specs.Prelude.{◌≡◌, ◌+◌, ◌*◌, ◌<◌, ◌≤◌, length};
 ghost use Rattle.rules.specs.State.{limit};
 ghost use Rattle.prop.specs.Room.{TypeIn};

@@ -24,7 +24,7 @@ fn empty(work: &mut [u8], p: u16)
     }
 }
 
-// The child, if it is used, has q above it.
+// The child, if it is used, has q above it. (A flag beside the field: an Option would be made only to be taken apart at once.)
 fn note(work: &mut [u8], used: bool, child: u16, q: u16)
     requires { used ≡ true → 2 * child + 1 < length work.old }
     ensures { Noted used child q work.old work.new }

@@ -28,7 +28,7 @@ fn prop_links_ok(r: Record, n: u16) -> bool
     }
 }
 
-// A child of term t, if it is used, has a larger number.
+// A child of term t, if it is used, has a larger number. (A flag beside the field: an Option would be made only to be taken apart at once.)
 fn child_ok(used: bool, t: u16, count: u16, m: u16) -> bool
     ensures { result ≡ (not used || (ltb t m && ltb m count)) }
 {

@@ -24,7 +24,7 @@ fn note(work: &mut [u8], i: usize)
     work[i] = work[i].min(1) + 1;
 }
 
-// A link, if it is used, names the record of its number, if there are so many.
+// A link, if it is used, names the record of its number, if there are so many. (A flag beside the field: an Option would be made only to be taken apart at once.)
 fn name(work: &mut [u8], used: bool, base: usize, bound: u16, m: u16)
     requires { (base + bound ≤ length work.old) × (base ≤ most_propositions) }
     ensures { Names base bound (used_hits used m) work.old work.new }

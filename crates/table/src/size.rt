@@ -49,7 +49,7 @@ fn too_high(file: &[u8], work: &mut [u8], p: u16) -> Option<u16>
     None
 }
 
-// The child, if it is used, stands at depth d.
+// The child, if it is used, stands at depth d. (A flag beside the field: an Option would be made only to be taken apart at once.)
 fn set_depth(work: &mut [u8], used: bool, child: u16, d: u8)
     requires { Within (used_hits used child) work.old }
     ensures { Deepened (used_hits used child) d work.old work.new }

@@ -62,6 +62,7 @@ fn next<R: Read, W: Write>(from: &mut R, out: &mut W, size: usize) -> io::Result
     answer(out, old, goal, filling)
 }
 
+// (As in `trace`: the loop is `show::each`, and each program has a `main`.)
 fn main(rt: HostRuntime) -> io::Result<()> {
     let mut from = rt.stdin();
     let mut out = show::output(&rt);

@@ -1,4 +1,4 @@
-use Rattle.step.specs.Rooms.{rooms}
+use Rattle.step.specs.Lent.{held, SameLent}
 use Rattle.checker.proofs.Turns.{rank, left, Going}
 use Rattle.checker.proofs.+check_perform_run_synthesize.Given as goal
 
@@ -17,7 +17,7 @@ decreases-synthesize l = rank l.file.now l.k.0 1
 -- what the term goes on with, in the rooms that it was begun in and those of now
 abbrev pub invariant-perform-loop-next : goal.invariant-perform-loop-next
 invariant-perform-loop-next l =
-    Going l.file (rooms l.fn.tree l.fn.goals l.fn.props l.fn.work) l.fn.k l.f.want l.fn.st (rooms l.tree l.goals l.props l.work) l.next
+    Going l.file (held l.fn.lent) l.fn.k l.f.want l.fn.st (held l.lent) l.next × SameLent l.fn.lent l.lent
 
 abbrev pub decreases-perform-loop-next : goal.decreases-perform-loop-next
 decreases-perform-loop-next l = left l.file l.fn.k.0 l.next

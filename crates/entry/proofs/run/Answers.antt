@@ -2,12 +2,13 @@ use mathlib.Core.Path.{◌∙◌}
 use native.Mathlib.Omega.{arith}
 use Rattle.std.proofs.lemmas.Result.{err_from_is_err_and}
 use Rattle.step.specs.Rooms.{rooms}
+use Rattle.step.specs.Lent.{held}
 use Rattle.entry.proofs.Marks.{tests_refuse, tests_pass}
 use Rattle.entry.proofs.Runs.{loadable, header_there, few_props, goal_there, ready, ran}
 use Rattle.entry.proofs.run.Goals as goal
 
-pub returns-in_err-test_table : goal.returns-in_err-test_table
-returns-in_err-test_table c =
+pub returns-in_err-test_table-clause-ran : goal.returns-in_err-test_table-clause-ran
+returns-in_err-test_table-clause-ran c =
     let p = err_from_is_err_and c.from_residual.result c.from_residual.ensures.1 in
     rw (p.1, p.2) (tests_refuse _ _ _ _ c.requires.work c.in_err-test_table.ensures)
 
@@ -30,15 +31,15 @@ check-requires c =
     let good = tests_pass _ _ _ c.requires.work c.in_ok-test_table.ensures in
     let loaded = c.load in
     record {
-      ready = ready c.args.file.now good _ (rooms c.args.tree.now c.args.goals.now loaded.new.props loaded.new.work) (record { tree = c.requires.tree; goals = c.requires.goals; props = loaded.auto.props ∙ c.requires.props; work = loaded.auto.work ∙ c.test_table.auto.work ∙ c.requires.work }) loaded.ensures;
+      ready = ready c.args.file.now good _ (rooms c.args.lent.now.tree.now c.args.lent.now.goals.now loaded.new.props loaded.new.work) (record { tree = c.requires.tree; goals = c.requires.goals; props = loaded.auto.props ∙ c.requires.props; work = loaded.auto.work ∙ c.test_table.auto.work ∙ c.requires.work }) loaded.ensures;
       type_in = goal_there c.args.file.now good c.expected_field.result.0 c.expected_field.ensures;
     }
 
-pub returns : goal.returns
-returns c =
+pub returns-clause-ran : goal.returns-clause-ran
+returns-clause-ran c =
     let good = tests_pass _ _ _ c.requires.work c.in_ok-test_table.ensures in
     let loaded = c.load in
     let checked = c.check in
-    ran c.args.file.now good _ (rooms c.args.tree.now c.args.goals.now loaded.new.props loaded.new.work) (record { tree = c.requires.tree; goals = c.requires.goals; props = loaded.auto.props ∙ c.requires.props; work = loaded.auto.work ∙ c.test_table.auto.work ∙ c.requires.work }) loaded.ensures
-    (rooms checked.new.tree checked.new.goals checked.new.props checked.new.work) checked.result c.expected_field.result.0
-    c.expected_field.ensures checked.ensures
+    ran c.args.file.now good _ (rooms c.args.lent.now.tree.now c.args.lent.now.goals.now loaded.new.props loaded.new.work) (record { tree = c.requires.tree; goals = c.requires.goals; props = loaded.auto.props ∙ c.requires.props; work = loaded.auto.work ∙ c.test_table.auto.work ∙ c.requires.work }) loaded.ensures
+    (held checked.new.lent) checked.result c.expected_field.result.0
+    c.expected_field.ensures checked.ensures.done

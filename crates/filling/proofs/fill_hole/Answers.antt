@@ -54,18 +54,18 @@ test_edited-requires c =
       well_linked = record { purpose = Check; linked = edited_in_order h E };
     }
 
-pub returns-in-Err : goal.returns-in-Err
-returns-in-Err c =
+pub returns-in-Err-clause-done : goal.returns-in-Err-clause-done
+returns-in-Err-clause-done c =
     let x = c.requires.exact_all in
     let size = c.edited_size-size in
     let fit : size.result ≤ length c.args.edited.now = omega (arith, size.ensures.1, x.edited) in
     let edit = c.edit in
     let E : Edited c.args.old.now c.args.filling.now c.args.hole.0 (take size.result (edit.new.table ++ drop size.result c.args.edited.now)) =
     subst⁻¹ (Edited c.args.old.now c.args.filling.now c.args.hole.0) (part_is size.result c.args.edited.now edit.new.table fit edit.auto.table) edit.ensures in
-    let bytes = bytes_take size.result (edit.new.table ++ drop size.result c.args.edited.now) (λ i. omega (arith, c.slice_known-6-1.given i)) in
+    let bytes = bytes_take size.result (edit.new.table ++ drop size.result c.args.edited.now) (λ i. omega (arith, c.slice_known-2-1.given i)) in
     let tested = c.test_edited in
     let y = exact_kept x refl refl refl tested.auto.work (room_long size.result c.args.edited.now edit.new.table fit edit.auto.table) in
-    edited_refused c.args.old.now c.args.filling.now c.args.goal c.args.hole.0 c.requires.hole_at (lent c.args.tree.now c.args.goals.now c.args.props.now c.args.work.now c.args.edited.now) (lent c.args.tree.now c.args.goals.now c.args.props.now tested.new.work (edit.new.table ++ drop size.result c.args.edited.now)) _ x y _ bytes E tested.result tested.ensures _ _ c.in-Err.is c.refuse.ensures
+    edited_refused c.args.old.now c.args.filling.now c.args.goal c.args.hole.0 c.requires.hole_at (lent c.args.lent.now.tree.now c.args.lent.now.goals.now c.args.lent.now.props.now c.args.lent.now.work.now c.args.edited.now) (lent c.args.lent.now.tree.now c.args.lent.now.goals.now c.args.lent.now.props.now tested.new.work (edit.new.table ++ drop size.result c.args.edited.now)) _ x y _ bytes E tested.result tested.ensures _ _ c.in-Err.is c.refuse.ensures.done
 
 pub run_filling-requires : goal.run_filling-requires
 run_filling-requires c =
@@ -86,15 +86,15 @@ run_filling-requires c =
       exact_all = y;
     }
 
-pub returns : goal.returns
-returns c =
+pub returns-clause-done : goal.returns-clause-done
+returns-clause-done c =
     let x = c.requires.exact_all in
     let size = c.edited_size-size in
     let fit : size.result ≤ length c.args.edited.now = omega (arith, size.ensures.1, x.edited) in
     let edit = c.edit in
     let E : Edited c.args.old.now c.args.filling.now c.args.hole.0 (take size.result (edit.new.table ++ drop size.result c.args.edited.now)) =
     subst⁻¹ (Edited c.args.old.now c.args.filling.now c.args.hole.0) (part_is size.result c.args.edited.now edit.new.table fit edit.auto.table) edit.ensures in
-    let bytes = bytes_take size.result (edit.new.table ++ drop size.result c.args.edited.now) (λ i. omega (arith, c.slice_known-6-1.given i)) in
+    let bytes = bytes_take size.result (edit.new.table ++ drop size.result c.args.edited.now) (λ i. omega (arith, c.slice_known-2-1.given i)) in
     let tested = c.test_edited in
     let y = exact_kept x refl refl refl tested.auto.work (room_long size.result c.args.edited.now edit.new.table fit edit.auto.table) in
-    edited_run c.args.old.now c.args.filling.now c.args.goal c.args.hole.0 c.requires.hole_at (lent c.args.tree.now c.args.goals.now c.args.props.now c.args.work.now c.args.edited.now) (lent c.args.tree.now c.args.goals.now c.args.props.now tested.new.work (edit.new.table ++ drop size.result c.args.edited.now)) _ x y _ bytes E tested.result tested.ensures _ c.in_default.is c.run_filling.ensures
+    edited_run c.args.old.now c.args.filling.now c.args.goal c.args.hole.0 c.requires.hole_at (lent c.args.lent.now.tree.now c.args.lent.now.goals.now c.args.lent.now.props.now c.args.lent.now.work.now c.args.edited.now) (lent c.args.lent.now.tree.now c.args.lent.now.goals.now c.args.lent.now.props.now tested.new.work (edit.new.table ++ drop size.result c.args.edited.now)) _ x y _ bytes E tested.result tested.ensures _ c.in_default.is c.run_filling.ensures.done

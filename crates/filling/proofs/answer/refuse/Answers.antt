@@ -1,5 +1,5 @@
 use mathlib.Core.Path.{refl}
 use Rattle.filling.proofs.answer.refuse.Goals as goal
 
-pub returns : goal.returns
-returns c = record { answer = refl; rooms = c.clear_rooms.ensures; edited = c.clear.ensures }
+pub returns-clause-done : goal.returns-clause-done
+returns-clause-done c = record { answer = refl; rooms = c.clear_rooms.ensures.emptied; edited = c.clear.ensures }

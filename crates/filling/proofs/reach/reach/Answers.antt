@@ -36,10 +36,10 @@ check-requires c =
     let x = c.requires.exact in
     let loaded = c.load in
     let J = waiting h E counted _ _ c.term_record.ensures c.put_term.ensures in
-    let y : Exact (rooms c.args.tree.now c.args.goals.now loaded.new.props loaded.new.work) =
+    let y : Exact (rooms c.args.lent.now.tree.now c.args.lent.now.goals.now loaded.new.props loaded.new.work) =
     record { tree = x.tree; goals = x.goals; props = loaded.auto.props ∙ x.props; work = loaded.auto.work ∙ x.work } in
     record {
-      ready = ready_waiting h E counted J c.args.goal (rooms c.args.tree.now c.args.goals.now loaded.new.props loaded.new.work) y loaded.ensures;
+      ready = ready_waiting h E counted J c.args.goal (rooms c.args.lent.now.tree.now c.args.lent.now.goals.now loaded.new.props loaded.new.work) y loaded.ensures;
       type_in = wants h E counted J c.args.goal c.expected_field.result.0 c.expected_field.ensures;
     }
 
@@ -56,34 +56,28 @@ recall-requires c =
     let x = c.requires.exact in
     let loaded = c.load in
     let J = waiting h E counted _ _ c.term_record.ensures c.put_term.ensures in
-    let y : Exact (rooms c.args.tree.now c.args.goals.now loaded.new.props loaded.new.work) =
+    let y : Exact (rooms c.args.lent.now.tree.now c.args.lent.now.goals.now loaded.new.props loaded.new.work) =
     record { tree = x.tree; goals = x.goals; props = loaded.auto.props ∙ x.props; work = loaded.auto.work ∙ x.work } in
     let field = c.expected_field in
     let checked = c.check in
-    let R' = rooms checked.new.tree checked.new.goals checked.new.props checked.new.work in
+    let R' = rooms checked.new.lent.tree.now checked.new.lent.goals.now checked.new.lent.props.now checked.new.lent.work.now in
     let hole = c.requires.hole_at in
-    (omega (arith, checked.auto.work, y.work), few_pictured h E counted J c.args.goal (rooms c.args.tree.now c.args.goals.now loaded.new.props loaded.new.work) y loaded.ensures R' checked.result field.result.0 field.ensures checked.ensures hole.gap hole.goal)
+    (omega (arith, checked.ensures.same_rooms.work_long, y.work), few_pictured h E counted J c.args.goal (rooms c.args.lent.now.tree.now c.args.lent.now.goals.now loaded.new.props loaded.new.work) y loaded.ensures R' checked.result field.result.0 field.ensures checked.ensures.done hole.gap hole.goal)
 
-pub shape_of-props : goal.shape_of-props
-shape_of-props c = c.check.auto.props ∙ c.load.auto.props
-
-pub shape_of-work : goal.shape_of-work
-shape_of-work c = c.recall.auto.work ∙ c.check.auto.work ∙ c.load.auto.work
-
-pub returns : goal.returns
-returns c =
+pub returns-clause-done : goal.returns-clause-done
+returns-clause-done c =
     let h = c.requires.fillable in
     let (E, counted) = c.requires.edited in
     let x = c.requires.exact in
     let loaded = c.load in
     let J = waiting h E counted _ _ c.term_record.ensures c.put_term.ensures in
-    let y : Exact (rooms c.args.tree.now c.args.goals.now loaded.new.props loaded.new.work) =
+    let y : Exact (rooms c.args.lent.now.tree.now c.args.lent.now.goals.now loaded.new.props loaded.new.work) =
     record { tree = x.tree; goals = x.goals; props = loaded.auto.props ∙ x.props; work = loaded.auto.work ∙ x.work } in
     let field = c.expected_field in
     let checked = c.check in
-    let R' = rooms checked.new.tree checked.new.goals checked.new.props checked.new.work in
+    let R' = rooms checked.new.lent.tree.now checked.new.lent.goals.now checked.new.lent.props.now checked.new.lent.work.now in
     let hole = c.requires.hole_at in
     let back = c.recall in (
-      table_back h E counted J _ _ c.term_record-root.ensures c.put_term-2.ensures (λ i. omega (arith, c.slice_known-5-1.given i)) (λ i. omega (arith, c.type_inv.table i)),
-      λ g goal. reached h E counted J c.args.goal (rooms c.args.tree.now c.args.goals.now loaded.new.props loaded.new.work) y loaded.ensures R' checked.result field.result.0 field.ensures checked.ensures g goal (ap (λ (g : Gap). g.term) (goal_same goal hole.goal) ∙ hole.here) back.result back.new.work back.ensures.0 back.ensures.1 back.ensures.2,
+      table_back h E counted J _ _ c.term_record-root.ensures c.put_term-2.ensures (λ i. omega (arith, c.slice_known-1.given i)) (λ i. omega (arith, c.type_inv.table i)),
+      λ g goal. reached h E counted J c.args.goal (rooms c.args.lent.now.tree.now c.args.lent.now.goals.now loaded.new.props loaded.new.work) y loaded.ensures R' checked.result field.result.0 field.ensures checked.ensures.done g goal (ap (λ (g : Gap). g.term) (goal_same goal hole.goal) ∙ hole.here) back.result back.new.work back.ensures.0 back.ensures.1 back.ensures.2,
     )

@@ -12,7 +12,7 @@ slice_bounds-count-end-in-Ok c = sym (length-take-le _ c.args.edited.now c.requi
 
 pub count-count-requires : goal.count-count-requires
 count-count-requires c =
-    let w = within (take c.args.size c.args.edited.now) c.args.size c.args.serials (rooms c.args.tree.now c.args.goals.now c.args.props.now c.args.work.now) c.args.answer _ c.in-Ok.is c.requires.fitting in
+    let w = within (take c.args.size c.args.edited.now) c.args.size c.args.serials (rooms c.args.lent.now.tree.now c.args.lent.now.goals.now c.args.lent.now.props.now c.args.lent.now.work.now) c.args.answer _ c.in-Ok.is c.requires.fitting in
     record {
       in_bounds = omega (arith, length-take-le c.args.size c.args.edited.now c.requires.size_in_bounds, w.0);
       st_bound = w.1;
@@ -20,17 +20,17 @@ count-count-requires c =
 
 pub clear_rest-requires : goal.clear_rest-requires
 clear_rest-requires c =
-    let all = rest_room (take c.args.size c.args.edited.now) c.args.size c.args.serials (rooms c.args.tree.now c.args.goals.now c.args.props.now c.args.work.now) c.args.answer _ c.in-Ok.is c.requires.fitting _ c.count-count.ensures c.requires.exact_all.rooms in
+    let all = rest_room (take c.args.size c.args.edited.now) c.args.size c.args.serials (rooms c.args.lent.now.tree.now c.args.lent.now.goals.now c.args.lent.now.props.now c.args.lent.now.work.now) c.args.answer _ c.in-Ok.is c.requires.fitting _ c.count-count.ensures c.requires.exact_all.rooms in
     record { records_bound = all.0; holes_bound = all.1.0; count_bound = all.1.1 }
 
 pub overflow_sub-result : goal.overflow_sub-result
-overflow_sub-result c = (within (take c.args.size c.args.edited.now) c.args.size c.args.serials (rooms c.args.tree.now c.args.goals.now c.args.props.now c.args.work.now) c.args.answer _ c.in-Ok.is c.requires.fitting).4
+overflow_sub-result c = (within (take c.args.size c.args.edited.now) c.args.size c.args.serials (rooms c.args.lent.now.tree.now c.args.lent.now.goals.now c.args.lent.now.props.now c.args.lent.now.work.now) c.args.answer _ c.in-Ok.is c.requires.fitting).4
 
-pub returns-in-Err : goal.returns-in-Err
-returns-in-Err c =
-    λ g o b ran. run_refused (lent c.args.tree.now c.args.goals.now c.args.props.now c.args.work.now c.args.edited.now) _ c.args.size c.args.serials g o b c.args.answer ran _ _ c.in-Err.is c.refuse.ensures
+pub returns-in-Err-clause-done : goal.returns-in-Err-clause-done
+returns-in-Err-clause-done c =
+    λ g o b ran. run_refused (lent c.args.lent.now.tree.now c.args.lent.now.goals.now c.args.lent.now.props.now c.args.lent.now.work.now c.args.edited.now) _ c.args.size c.args.serials g o b c.args.answer ran _ _ c.in-Err.is c.refuse.ensures.done
 
-pub returns-in-Ok : goal.returns-in-Ok
-returns-in-Ok c =
-    λ g o b ran. rw c.from.ensures (run_accepted (lent c.args.tree.now c.args.goals.now c.args.props.now c.args.work.now c.args.edited.now) _ c.args.size c.args.serials g o b c.args.answer ran _ _ _ c.in-Ok.is c.requires.size_in_bounds
-    c.count-count.ensures c.clear_rest.ensures c.trim.ensures refl)
+pub returns-in-Ok-clause-done : goal.returns-in-Ok-clause-done
+returns-in-Ok-clause-done c =
+    λ g o b ran. rw c.from.ensures (run_accepted (lent c.args.lent.now.tree.now c.args.lent.now.goals.now c.args.lent.now.props.now c.args.lent.now.work.now c.args.edited.now) _ c.args.size c.args.serials g o b c.args.answer ran _ _ _ c.in-Ok.is c.requires.size_in_bounds
+    c.count-count.ensures c.clear_rest.ensures.rest c.trim.ensures refl)

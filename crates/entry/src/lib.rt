@@ -81,7 +81,10 @@ pub fn check_table(file: &[u8], lent: &mut Lent<'_>) -> Result<Counts, Refusal>
             clear_rest(lent, st.records, st.goals, count);
             Ok(Counts::from(st))
         }
-        Err(e) => refuse(lent, e),
+        Err(e) => {
+            clear_rooms(lent);
+            Err(e)
+        }
     }
 }
 

@@ -69,16 +69,16 @@ fn write_edited(rt: &HostRuntime, edited: &[u8; EDITED]) {
 
 fn fill_files(rt: &HostRuntime, goal: u16, kept: bool) -> io::Result<()> {
     let mut old = [0u8; LONGEST];
-    let Some(old) = read_argument(rt, 1, &mut old) else {
+    let Some(n) = read_argument(rt, 1, &mut old) else {
         return Ok(());
     };
     let mut filling = [0u8; LONGEST];
-    let Some(filling) = read_argument(rt, 3, &mut filling) else {
+    let Some(m) = read_argument(rt, 3, &mut filling) else {
         return Ok(());
     };
     let mut edited = [0u8; EDITED];
     let mut out = show::output(rt);
-    let accepted = answer(&mut out, old, goal, filling, &mut edited)?;
+    let accepted = answer(&mut out, &old[..n], goal, &filling[..m], &mut edited)?;
     out.flush()?;
     if accepted && kept {
         write_edited(rt, &edited);

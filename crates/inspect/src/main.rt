@@ -28,11 +28,11 @@ fn answer<W: Write>(out: &mut W, file: &[u8], purpose: Purpose) -> io::Result<()
 // The file that argument i names.
 fn inspect(rt: &HostRuntime, i: usize, purpose: Purpose) -> io::Result<()> {
     let mut room = [0u8; LONGEST];
-    let Some(file) = read_argument(rt, i, &mut room) else {
+    let Some(n) = read_argument(rt, i, &mut room) else {
         return Ok(());
     };
     let mut out = show::output(rt);
-    answer(&mut out, file, purpose)?;
+    answer(&mut out, &room[..n], purpose)?;
     out.flush()
 }
 

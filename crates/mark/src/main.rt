@@ -38,10 +38,10 @@ fn main(rt: HostRuntime) -> io::Result<()> {
         return eprintln!(rt; "usage: mark FILE");
     }
     let mut room = [0u8; LONGEST];
-    let Some(file) = read_argument(&rt, 1, &mut room) else {
+    let Some(n) = read_argument(&rt, 1, &mut room) else {
         return Ok(());
     };
     let mut out = show::output(&rt);
-    answer(&mut out, file)?;
+    answer(&mut out, &room[..n])?;
     out.flush()
 }

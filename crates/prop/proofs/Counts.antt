@@ -62,11 +62,11 @@ module _ (w : List ℕ) (n left : ℕ) where
     one_node : (tables : ℕ) → size_of tables n ≡ 1 → Some 1 ≡ counted (size_of tables n) left
     one_node tables e = ap Some (sym e) ∙ within_counted (size_of tables n) left (omega arith)
 
-    count_constant : ConstantAt w n → (tables : ℕ) → Some 1 ≡ counted (size_of tables n) left
+    pub count_constant : ConstantAt w n → (tables : ℕ) → Some 1 ≡ counted (size_of tables n) left
     unfolding size
     count_constant v tables = one_node tables (ap size (v.whole tables))
 
-    count_atom : (r : Record) → AtomAt w n r → (tables : ℕ) → Some 1 ≡ counted (size_of tables n) left
+    pub count_atom : (r : Record) → AtomAt w n r → (tables : ℕ) → Some 1 ≡ counted (size_of tables n) left
     unfolding size
     count_atom r v tables = one_node tables (ap size (v.whole tables))
 

@@ -64,11 +64,12 @@ fn atoms(r: Record, s: Record) -> Compared
 }
 
 impl Propositions<'_> {
-    // The walk is over the trees, and is over at once where the two numbers are the same.
-    pub fn compare(self, a: Proposition, b: Proposition) -> Compared
-        requires a_lt_count { a.0 < self.count }
-        requires b_lt_count { b.0 < self.count }
-        ensures { (tables : ℕ) → result ≡ compared_props (room_at tables self.entry.room.now a.0) (room_at tables self.entry.room.now b.0) }
+    // The walk is over the trees, and is over at once where the two numbers are the same. (By reference: a walk that took the value would copy it at
+    // each node.)
+    pub fn compare(&self, a: Proposition, b: Proposition) -> Compared
+        requires a_lt_count { a.0 < self.now.count }
+        requires b_lt_count { b.0 < self.now.count }
+        ensures { (tables : ℕ) → result ≡ compared_props (room_at tables self.now.room.now a.0) (room_at tables self.now.room.now b.0) }
     {
         if a == b {
             return Compared::Equal;

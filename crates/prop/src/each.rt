@@ -21,11 +21,11 @@ pub trait Test: Copy {
 }
 
 impl Propositions<'_> {
-    // The walk is over the tree: a shared node is visited at each of its places.
-    pub fn each<T: Test>(self, n: Proposition, test: T) -> bool
-        requires n_lt_count { n.0 < self.count }
+    // The walk is over the tree: a shared node is visited at each of its places. (By reference, as `compare`.)
+    pub fn each<T: Test>(&self, n: Proposition, test: T) -> bool
+        requires n_lt_count { n.0 < self.now.count }
         requires test_ready { T.ready test }
-        ensures { (tables : ℕ) → result ≡ each (λ d. T.passes test) 0 (room_at tables self.entry.room.now n.0) }
+        ensures { (tables : ℕ) → result ≡ each (λ d. T.passes test) 0 (room_at tables self.now.room.now n.0) }
     {
         match self.view_at(n) {
             View::Constant => true,

@@ -10,10 +10,10 @@ use numbers::Proposition;
 
 impl Propositions<'_> {
     // The nodes of proposition n, if there are at most `left`. Made nodes are shared, so a tree's size may pass any 16-bit number: past the budget
-    // nothing is counted, and no more than `left` nodes are visited.
-    pub fn nodes_of(self, n: Proposition, left: u16) -> Option<u16>
-        requires { n.0 < self.count }
-        ensures { (tables : ℕ) → result ≡ counted (size (room_at tables self.entry.room.now n.0)) left }
+    // nothing is counted, and no more than `left` nodes are visited. (By reference, as `compare`.)
+    pub fn nodes_of(&self, n: Proposition, left: u16) -> Option<u16>
+        requires { n.0 < self.now.count }
+        ensures { (tables : ℕ) → result ≡ counted (size (room_at tables self.now.room.now n.0)) left }
     {
         if left == 0 {
             return None;

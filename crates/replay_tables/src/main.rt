@@ -9,8 +9,10 @@ use table::Purpose;
 
 // A check where the input ends, too.
 fn next_purpose<R: Read>(from: &mut R) -> Purpose {
-    match read_table(from, &mut [0], 1) {
-        [] | [0] => Purpose::Check,
+    let mut mode = [0u8];
+    read_table(from, &mut mode, 1);
+    match mode {
+        [0] => Purpose::Check,
         _ => Purpose::Filling,
     }
 }
@@ -20,8 +22,8 @@ fn replay<R: Read, W: Write>(from: &mut R, out: &mut W) -> io::Result<()> {
     let mut work = [0u8; table::ROOM];
     let size = next_word(from);
     let purpose = next_purpose(from);
-    let file = read_table(from, &mut room, size);
-    show::answer(out, table::test_table(file, &mut work, purpose))
+    let n = read_table(from, &mut room, size);
+    show::answer(out, table::test_table(&room[..n], &mut work, purpose))
 }
 
 fn main(rt: HostRuntime) -> io::Result<()> {

@@ -1,5 +1,4 @@
 -- Abort, piece by piece. Assumes nothing.
-use Rattle.step.specs.declared.inference.Inference.TheVariants as inference
 use mathlib.Core.Path.{◌≡◌, refl, ap, sym, ◌∙◌}
 use mathlib.Core.Bool.{false}
 use mathlib.Core.List.{List, []}
@@ -85,6 +84,6 @@ module _ {l : List ℕ} {R₀ : Rooms} {f : Rule} {R : Rooms} {t : Sort} {s : St
   unfolding on_prop obey
   aborts_data d e r er = says 13 k er (doing_stop (refusal 13 k) (told (sort.Datatype d) e) refl)
 
-  pub aborts_by : (p : Proposition) → found ≡ sort.Proposition p → Resumed l R₀ f R (left.By inference.FalsumElim 1) t s
+  pub aborts_by : (p : Proposition) → found ≡ sort.Proposition p → Resumed l R₀ f R (left.By 10 1) t s
   unfolding on_prop
   aborts_by p e = turned a a.stands (told (sort.Proposition p) e) (omega arith) a.holds tt

@@ -1,5 +1,4 @@
 -- Application, piece by piece. Assumes nothing.
-use Rattle.step.specs.declared.inference.Inference.TheVariants as inference
 use mathlib.Core.Path.{◌≡◌, refl, ap, sym, subst, ◌∙◌}
 use mathlib.Core.List.{List, []}
 use Prim.Native.Nat.{ℕ, ◌+◌}
@@ -122,7 +121,7 @@ module _ {l : List ℕ} {R₀ : Rooms} {f : Rule} {R : Rooms} {t : Sort} {s : St
             (omega (arith, a.holds.2)) a.fits (omega (arith, over.body, ec), omega (arith, a.holds.1), a.holds.0) a.others tt
 
 -- WHAT AN IMPL CONCLUDES
-pub concludes_by : {l : List ℕ} {R₀ : Rooms} {f : Rule} {R : Rooms} {t : Sort} {s : State} {b : Proposition} → Resumed l R₀ f R (left.Concludes b) t s → Resumed l R₀ f R (left.By inference.ImplElim 2) (sort.Proposition b) s
+pub concludes_by : {l : List ℕ} {R₀ : Rooms} {f : Rule} {R : Rooms} {t : Sort} {s : State} {b : Proposition} → Resumed l R₀ f R (left.Concludes b) t s → Resumed l R₀ f R (left.By 6 2) (sort.Proposition b) s
 concludes_by {l} {R₀} {f} {R} {b = b} a =
     turned a (record { among = a.holds.0; means = refl })
     (doing_same (ap (λ (A : Ty). by 6 f.term.0 A []) (sym (answered_synth l R₀.props a.holds.2 (prop (room_at (props l) R.props b.0))))) a.doing) (omega arith) a.holds.1 tt
@@ -133,7 +132,7 @@ module _ {l : List ℕ} {R₀ : Rooms} {f : Rule} {R : Rooms} {t : Sort} {s : St
   pub instance_full : PutIs R.props count free b.0 i.0 ps None → (e : Refusal) → e ≡ record { number = 30; place = f.term.0 } → Refuses (run_of l R₀ f.term.0 (mode l R₀.props f.want) f.start) e
   instance_full puts e ee = says 30 f.term.0 ee (doing_stop (refusal 30 f.term.0) a.doing (put_stops l R.props ps count free b.0 i.0 s None ec el puts refl f.term.0 _ tt))
 
-  pub instance_made : (o : Copied) → PutIs R.props count free b.0 i.0 ps (Some o) → (s₁ : State) → GrownTo s count o.count s₁ → Resumed l R₀ f (rooms R.tree R.goals ps R.work) (left.By inference.ForAllElim 2) (sort.Proposition o.at) s₁
+  pub instance_made : (o : Copied) → PutIs R.props count free b.0 i.0 ps (Some o) → (s₁ : State) → GrownTo s count o.count s₁ → Resumed l R₀ f (rooms R.tree R.goals ps R.work) (left.By 12 2) (sort.Proposition o.at) s₁
   instance_made o puts s₁ g =
       let B = room_at (props l) R.props b.0 in
       let d : MadeFor l R.props ps s s₁ (size B) (put i.0 B) o.at = put_made l R.props ps count free b.0 i.0 s (Some o) ec el puts s₁ o refl g in

@@ -1,5 +1,4 @@
 -- Function, piece by piece. Assumes nothing.
-use Rattle.step.specs.declared.inference.Inference.{Inference}
 use mathlib.Core.Path.{◌≡◌, refl, ap, sym, subst, subst⁻¹, ◌∙◌}
 use mathlib.Core.List.{List, [], ◌∷◌}
 use mathlib.Core.Option.{Option}
@@ -177,7 +176,7 @@ module _ {l : List ℕ} {R : Rooms} {k : Place} {st : State} (rd : Ready l R k.0
             body = making_stands on.making to.making.arena to.body_stands
 
             pub function_begins : (s₂ : State) (work : List ℕ) → s₂ ≡ deeper s₁ → Inserted R.work s₁.context (record { name = id.name; serial = id.serial; typ = a }) work
-                → Asked l R f (rooms R.tree R.goals ps₂ work) (left.Closes o.rule id.serial) c₁ (want.Check (sort.Proposition o.body)) s₂
+                → Asked l R f (rooms R.tree R.goals ps₂ work) (left.Closes (rule_number o.rule) id.serial) c₁ (want.Check (sort.Proposition o.body)) s₂
             unfolding answered
             function_begins s₂ work e₂ ins =
                 let entered = doing_step rest_of 0 ahead (entered_left R₂ s₁ ins on.making.arena (few_entries rd ahead)) ahead.made (omega arith) refl in
@@ -229,10 +228,10 @@ module _ {l : List ℕ} {R : Rooms} {k : Place} {st : State} (rd : Ready l R k.0
               (omega arith) (omega (arith, sizes)) (found.stands.among, refl, refl) inside tt
 
 -- THE NODE of a checked function
-pub closes_by : {l : List ℕ} {R₀ : Rooms} {f : Rule} {R : Rooms} {T : Sort} {s : State} {n : Inference} {i : Serial} → Resumed l R₀ f R (left.Closes n i) T s → (found : Sort) → found ≡ answer_of f.want T
-    → (nd : Record) → nd ≡ node_rec (rule_number n) f.term.0 found i.0 none 1 → (tr : List ℕ) → Put R.tree f.start.records nd tr
+pub closes_by : {l : List ℕ} {R₀ : Rooms} {f : Rule} {R : Rooms} {T : Sort} {s : State} {n : ℕ} {i : Serial} → Resumed l R₀ f R (left.Closes n i) T s → (found : Sort) → found ≡ answer_of f.want T
+    → (nd : Record) → nd ≡ node_rec n f.term.0 found i.0 none 1 → (tr : List ℕ) → Put R.tree f.start.records nd tr
     → RanAs l R₀ (rooms tr R.goals R.props R.work) f.term.0 f.want f.start (Ok (record { typ = found; state = s }))
-closes_by {f = f} {n = n} {i = i} a found ef nd en tr put = ends_with a (i.0 ∷ []) a.doing found ef nd (en ∙ ap (node_rec (rule_number n) f.term.0 found i.0 none) (sym a.holds)) tr put
+closes_by {f = f} {n = n} {i = i} a found ef nd en tr put = ends_with a (i.0 ∷ []) a.doing found ef nd (en ∙ ap (node_rec n f.term.0 found i.0 none) (sym a.holds)) tr put
 
 -- THE CONCLUSION of a synthesized one, of what its body has
 module _ {l : List ℕ} {R₀ : Rooms} {f : Rule} {R : Rooms} {t : Sort} {s : State} {i : Serial} {S : Sort} (a : Resumed l R₀ f R (left.Abstracts i S) t s) (r : TermRecord) (er : r ≡ term_record l f.term.0) where
@@ -266,7 +265,7 @@ module _ {l : List ℕ} {R₀ : Rooms} {f : Rule} {R : Rooms} {t : Sort} {s : St
     pub abstracts_full : (e : Refusal) → AbstractedAs l R.props ps k₂ r.name1.0 i.0 S b.0 s (Err e) → Refuses (run_of l R₀ k₂ w f.start) e
     abstracts_full e m = doing_stop (refusal_of e) concluding (named (Err e) m tt)
 
-    pub abstracts_to : (o : Abstraction) → AbstractedAs l R.props ps k₂ r.name1.0 i.0 S b.0 s (Ok o) → Resumed l R₀ f (rooms R.tree R.goals ps R.work) (left.Closes o.rule i) (sort.Proposition o.whole) o.state
+    pub abstracts_to : (o : Abstraction) → AbstractedAs l R.props ps k₂ r.name1.0 i.0 S b.0 s (Ok o) → Resumed l R₀ f (rooms R.tree R.goals ps R.work) (left.Closes (rule_number o.rule) i) (sort.Proposition o.whole) o.state
     abstracts_to o m =
         let made : AbstractedTo l R.props ps k₂ (term_record l k₂).name1.0 i.0 S b.0 s (rule_number o.rule) o.whole.0 o.state = named (Ok o) m in
         turned a made.stands

@@ -27,7 +27,7 @@ use Rattle.step.specs.declared.state.Want.{Want}
 use Rattle.step.specs.declared.state.Want.TheVariants as want
 use Rattle.step.specs.Rooms.{Rooms, rooms, reads, ctx_of, count_of, leaving, numbered, deeper, Stands, Entries, Base}
 use Rattle.step.specs.Modes.{mode, WantIn, answer_of, number_of}
-use Rattle.step.specs.Trees.{rule_number, node_rec, first_serial, second_serial}
+use Rattle.step.specs.Trees.{node_rec, first_serial, second_serial}
 use Rattle.step.specs.Contract.{Ready, Grown, Refuses, RanAs}
 use Rattle.step.specs.Under.{Doing}
 use Rattle.step.proofs.Frames.{type_kept}
@@ -59,7 +59,7 @@ answered_synth l ps e A = ap (λ (w : Want). answered (mode l ps w) A) e
 module _ (l ps ps' : List ℕ) (k : ℕ) (w : Mode) (Γ : Ctx) (c own wide : ℕ) (v : Want) (types : (T : Sort) → TypeIn c T → reads l ps' T ≡ reads l ps T) (same : (n : ℕ) → n < c → room_at (props l) ps' n ≡ room_at (props l) ps n) where
   program_kept : (q : Rest) → Holds c own wide v q → (B : Ty) → program l ps k w Γ q B ≡ program l ps' k w Γ q B
   program_kept (rest.By n m) h B = refl
-  program_kept (rest.Right n b) h B = ap (λ (P : Prop). ask (check (prop P)) Γ λ C. by (rule_number n) k (answered w C) []) (sym (same b.0 h.0))
+  program_kept (rest.Right n b) h B = ap (λ (P : Prop). ask (check (prop P)) Γ λ C. by n k (answered w C) []) (sym (same b.0 h.0))
   program_kept rest.Second h B = refl
   program_kept (rest.Both S) h B = ap (λ (A : Ty). pairing k A B) (sym (types S h.0))
   program_kept rest.Part h B = refl

@@ -1,5 +1,4 @@
 -- OrLeft and OrRight, held to a type. Assumes nothing.
-use Rattle.step.specs.declared.inference.Inference.TheVariants as inference
 use mathlib.Core.Path.{◌≡◌, refl, ap, sym, ◌∙◌}
 use mathlib.Core.Bool.{Bool, true, false, cond}
 use mathlib.Core.List.{List, []}
@@ -113,10 +112,10 @@ module _ {l : List ℕ} {R : Rooms} {k : Place} {st : State} (rd : Ready l R k.0
         (injects rd kind (check A)
         ∙ ap (λ (q : Prog one). rest (check A) end (obey q (kid_at l c, tt) (st_of st))) (split.goes (props l) one _ _ ∙ ap (λ (x : Bool). cond x (part a 7) (part b 8)) (ap (λ (r : TermRecord). eqb r.kind 7) (sym er) ∙ ex)))
 
-    pub or_first : eqb r.kind 7 ≡ true → Asked l R f R (left.By inference.OrIntroFst 1) c (want.Check (sort.Proposition a)) (inner st)
+    pub or_first : eqb r.kind 7 ≡ true → Asked l R f R (left.By 7 1) c (want.Check (sort.Proposition a)) (inner st)
     unfolding answered
     or_first ex = asks rd among (chosen true ex) (omega arith) (omega (arith, (child rd kind).1)) refl ((child rd kind).0, tt) (omega (arith, split.first))
 
-    pub or_second : eqb r.kind 7 ≡ false → Asked l R f R (left.By inference.OrIntroSnd 1) c (want.Check (sort.Proposition b)) (inner st)
+    pub or_second : eqb r.kind 7 ≡ false → Asked l R f R (left.By 8 1) c (want.Check (sort.Proposition b)) (inner st)
     unfolding answered
     or_second ex = asks rd among (chosen false ex) (omega arith) (omega (arith, (child rd kind).1)) refl ((child rd kind).0, tt) (omega (arith, split.second))

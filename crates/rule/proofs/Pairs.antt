@@ -1,6 +1,4 @@
 -- Pair, piece by piece. Assumes nothing.
-use Rattle.step.specs.declared.inference.Inference.TheVariants as inference
-use Rattle.step.specs.declared.inference.Inference.{Inference}
 use mathlib.Core.Path.{◌≡◌, refl, ap, sym, subst, ◌∙◌}
 use mathlib.Core.List.{List, []}
 use Prim.Native.Nat.{ℕ, ◌+◌, ◌<◌, ◌≤◌}
@@ -83,7 +81,7 @@ module _ {l : List ℕ} {R : Rooms} {k : Place} {st : State} (rd : Ready l R k.0
 
     module _ (count : ℕ) (ec : count ≡ count_of l st) where
       -- against an And: the left part is asked
-      pub pair_begins : (o : Parts) → Split and R.props count wanted o.left.0 o.right.0 → Asked l R f R (left.Right inference.AndIntro o.right) c₁ (want.Check (sort.Proposition o.left)) (inner st)
+      pub pair_begins : (o : Parts) → Split and R.props count wanted o.left.0 o.right.0 → Asked l R f R (left.Right 2 o.right) c₁ (want.Check (sort.Proposition o.left)) (inner st)
       unfolding pair_step answered
       pair_begins o split =
           asks rd among (doing_start _ (kid_at l c₁, (kid_at l c₂, tt)) rd (starts ∙ ap (λ (q : Prog two). rest (check A) end (obey q (kid_at l c₁, (kid_at l c₂, tt)) (st_of st))) (split.goes (props l) two _ _)))
@@ -136,7 +134,7 @@ module _ {l : List ℕ} {R : Rooms} {k : Place} {st : State} (rd : Ready l R k.0
                 (goes ∙ full_stops l R.props ps count free (inner st) (λ t. size (room_at t R.props b.0)) (λ t. put i.0 (room_at t R.props b.0)) None ec el puts refl k.0 _ (kid_at l c₁, (kid_at l c₂, tt))))
 
             pub exists_begins : (o : Copied) → PutIs R.props count free b.0 i.0 ps (Some o) → (g : State) → GrownTo st count o.count g
-                → Asked l R f (rooms R.tree R.goals ps R.work) (left.Right inference.ExistsIntro o.at) c₁ (want.Check (sort.Datatype d)) (inner g)
+                → Asked l R f (rooms R.tree R.goals ps R.work) (left.Right 13 o.at) c₁ (want.Check (sort.Datatype d)) (inner g)
             unfolding answered
             exists_begins o puts g eg =
                 let makes : MadeFor l R.props ps (inner st) (inner g) (size B) (put i.0 B) o.at =
@@ -148,7 +146,7 @@ module _ {l : List ℕ} {R : Rooms} {k : Place} {st : State} (rd : Ready l R k.0
 
 -- THE RIGHT PART is asked
 module _ {l : List ℕ} {R₀ : Rooms} {f : Rule} {R : Rooms} {T : Sort} {s : State} where
-  pub pair_right : {n : Inference} {b : Proposition} → Resumed l R₀ f R (left.Right n b) T s → Asked l R₀ f R (left.By n 2) (term_record l f.term.0).child2.0 (want.Check (sort.Proposition b)) s
+  pub pair_right : {n : ℕ} {b : Proposition} → Resumed l R₀ f R (left.Right n b) T s → Asked l R₀ f R (left.By n 2) (term_record l f.term.0).child2.0 (want.Check (sort.Proposition b)) s
   pair_right a = asks a.begun a.wants a.doing a.holds.2 a.fits (omega (arith, a.holds.1)) a.others a.holds.0
 
   pub pairing_second : Resumed l R₀ f R left.Second T s → Asked l R₀ f R (left.Both T) (term_record l f.term.0).child2.0 want.Synth s
@@ -184,7 +182,7 @@ module _ {l : List ℕ} {R₀ : Rooms} {f : Rule} {R : Rooms} {t u : Sort} {s : 
       pub both_full : LinkIs and R.props count free p.0 b.0 ps None → (r : Refusal) → r ≡ record { number = 30; place = k } → Refuses (run_of l R₀ k (mode l R₀.props f.want) f.start) r
       both_full is r er = says 30 k er (doing_stop (refusal 30 k) making_and (full_stops l R.props ps count free s (λ tables. 1) whole_and None ec el is refl k _ tt))
 
-      pub both_made : (o : Copied) → LinkIs and R.props count free p.0 b.0 ps (Some o) → (s₁ : State) → GrownTo s count o.count s₁ → Resumed l R₀ f (rooms R.tree R.goals ps R.work) (left.By inference.AndIntro 2) (sort.Proposition o.at) s₁
+      pub both_made : (o : Copied) → LinkIs and R.props count free p.0 b.0 ps (Some o) → (s₁ : State) → GrownTo s count o.count s₁ → Resumed l R₀ f (rooms R.tree R.goals ps R.work) (left.By 2 2) (sort.Proposition o.at) s₁
       both_made o is s₁ g =
           let d : MadeFor l R.props ps s s₁ 1 (whole_and (props l)) o.at = made_for l R.props ps count free s (λ tables. 1) whole_and (Some o) ec el is s₁ o refl g in
           turned a d.stands

@@ -1,7 +1,4 @@
 -- The projections, piece by piece. Assumes nothing.
-use Rattle.step.specs.declared.inference.Inference.TheVariants as inference
-use Rattle.step.specs.declared.inference.Inference.{Inference}
-use Rattle.step.specs.Trees.{rule_number}
 use mathlib.Core.Path.{◌≡◌, refl, ap, sym, ◌∙◌}
 use mathlib.Core.Bool.{Bool, true, false, cond}
 use mathlib.Core.List.{List, []}
@@ -104,12 +101,12 @@ module _ {l : List ℕ} {R₀ : Rooms} {f : Rule} {R : Rooms} {t : Sort} {s : St
     chosen : (b : Bool) → eqb r.kind 2 ≡ b → Doing l R₀ k (mode l R₀.props f.want) f.start R s (cond b (by 3 k (P x) []) (by 4 k (P y) [])) tt a.used a.own a.wide
     chosen b eb = doing_same (split.goes (props l) done _ _ ∙ ap (λ (b : Bool). cond b (by 3 k (P x) []) (by 4 k (P y) [])) (ap (λ (r : TermRecord). eqb r.kind 2) (sym er) ∙ eb)) whole
 
-    ends : (n : Inference) (m : Proposition) → m.0 < count_of l s → Doing l R₀ k (mode l R₀.props f.want) f.start R s (by (rule_number n) k (P m) []) tt a.used a.own a.wide → Resumed l R₀ f R (left.By n 1) (sort.Proposition m) s
+    ends : (n : ℕ) (m : Proposition) → m.0 < count_of l s → Doing l R₀ k (mode l R₀.props f.want) f.start R s (by n k (P m) []) tt a.used a.own a.wide → Resumed l R₀ f R (left.By n 1) (sort.Proposition m) s
     ends n m h d =
-        turned a (record { among = h; means = refl }) (doing_same (ap (λ (A : Ty). by (rule_number n) k A []) (sym (answered_synth l R₀.props a.holds.0 (P m)))) d) (omega arith) a.holds.1 tt
+        turned a (record { among = h; means = refl }) (doing_same (ap (λ (A : Ty). by n k A []) (sym (answered_synth l R₀.props a.holds.0 (P m)))) d) (omega arith) a.holds.1 tt
 
-    pub part_first : eqb r.kind 2 ≡ true → Resumed l R₀ f R (left.By inference.AndElimFst 1) (sort.Proposition x) s
-    part_first eb = ends inference.AndElimFst x (omega (arith, split.first)) (chosen true eb)
+    pub part_first : eqb r.kind 2 ≡ true → Resumed l R₀ f R (left.By 3 1) (sort.Proposition x) s
+    part_first eb = ends 3 x (omega (arith, split.first)) (chosen true eb)
 
-    pub part_second : eqb r.kind 2 ≡ false → Resumed l R₀ f R (left.By inference.AndElimSnd 1) (sort.Proposition y) s
-    part_second eb = ends inference.AndElimSnd y (omega (arith, split.second)) (chosen false eb)
+    pub part_second : eqb r.kind 2 ≡ false → Resumed l R₀ f R (left.By 4 1) (sort.Proposition y) s
+    part_second eb = ends 4 y (omega (arith, split.second)) (chosen false eb)

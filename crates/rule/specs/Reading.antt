@@ -1,6 +1,5 @@
 -- What is left of a rule, read as the rules see it: the rest of its program, and the children that are still to be asked. Each rest is cut out of its
 -- rule in `Rules`, and is held against it where the rule begins. Assumes nothing.
-use Rattle.step.specs.Trees.{rule_number}
 use Rattle.std.specs.Prelude.{cond, List, [], ◌∷◌, ℕ, ◌+◌, ◌<◌, eqb}
 use Rattle.layout.specs.declared.record.TermRecord.{TermRecord}
 use Rattle.layout.specs.File.{props, terms, term_record}
@@ -76,12 +75,12 @@ abbrev pub arming : (l : List ℕ) (k : ℕ) → Mode → Ctx → (i : ℕ) → 
 arming l k w Γ i Q S = serial λ j. ask w (entry (term_record l k).name2.0 j (prop Q) ∷ Γ) λ T. judging k w i j S T
 
 abbrev pub program : (l ps : List ℕ) (k : ℕ) (w : Mode) (Γ : Ctx) (q : Rest) → Ty → Prog (arity (after (term_record l k) q))
-program l ps k w Γ (rest.By n m) B = by (rule_number n) k (answered w B) []
-program l ps k w Γ (rest.Right n b) B = ask (check (prop (room_at (props l) ps b.0))) Γ λ C. by (rule_number n) k (answered w C) []
+program l ps k w Γ (rest.By n m) B = by n k (answered w B) []
+program l ps k w Γ (rest.Right n b) B = ask (check (prop (room_at (props l) ps b.0))) Γ λ C. by n k (answered w C) []
 program l ps k w Γ rest.Second S = ask synth Γ λ T. pairing k S T
 program l ps k w Γ (rest.Both S) T = pairing k (reads l ps S) T
 program l ps k w Γ rest.Part T = projecting k (term_record l k).kind T
-program l ps k w Γ (rest.Closes n i) B = by (rule_number n) k (answered w B) (i.0 ∷ [])
+program l ps k w Γ (rest.Closes n i) B = by n k (answered w B) (i.0 ∷ [])
 program l ps k w Γ (rest.Abstracts i S) U = abstracting l k i.0 (reads l ps S) U
 program l ps k w Γ rest.Argument F =
     on_link imp F (λ A B. ask (check (prop A)) Γ λ C. by 6 k (prop B) []) (applying k (term_record l k).child1.0 (term_record l k).child2.0 Γ F)

@@ -50,5 +50,5 @@ pub fn aborts(tree: &mut [u8], f: Rule, a: Answer) -> Result<Next, Refusal>
     let Sort::Proposition(_) = f.want.answered(a.typ) else {
         return Err(Reason::CheckNoObject.at(f.term));
     };
-    by(tree, f, Inference::FalsumElim, 1, a)
+    by(tree, f, Inference::FalsumElim.number(), 1, a)
 }

@@ -69,7 +69,7 @@ pub fn concludes(tree: &mut [u8], f: Rule, b: Proposition, st: State) -> Result<
     ensures { (l goals ps work : List ℕ) (t : Sort) → Resumes l (rooms tree.old goals ps work)
         (rooms tree.new goals ps work) f (Concludes b) t st result }
 {
-    by(tree, f, Inference::ImplElim, 2, proved(b, st))
+    by(tree, f, Inference::ImplElim.number(), 2, proved(b, st))
 }
 
 pub fn instance(
@@ -92,5 +92,5 @@ pub fn instance(
         return Err(Reason::TooManyMade.at(f.term));
     };
     let whole = proved(m.at, st.grown(count, m.count));
-    by(tree, f, Inference::ForAllElim, 2, whole)
+    by(tree, f, Inference::ForAllElim.number(), 2, whole)
 }

@@ -13,8 +13,7 @@ use super::next::{Next, Rest, Rule, proved};
 use numbers::refusal::{Reason, Refusal};
 use numbers::{Serial, Sort, Term};
 use step::enter::{enter, enter_fresh};
-use step::inference::Inference;
-use step::node::{node, put_node};
+use step::node::{node_record, put_node};
 use step::open::{abstract_over, open_function};
 use step::state::{Answer, State, Want, term_record};
 use step::typing::{agree, annotation_of, resolve_type};
@@ -41,22 +40,16 @@ pub fn check(
     let s = agree(file, props, work, k, annotation_of(r), o.parameter, o.state)?;
     let entered = enter(work, s, id, o.parameter);
     let body = Want::Check(Sort::Proposition(o.body));
-    Ok(Next::Ask(Rest::Closes(o.rule, i), r.child1, body, entered))
+    Ok(Next::Ask(Rest::Closes(o.rule.number(), i), r.child1, body, entered))
 }
 
-pub fn closes(
-    tree: &mut [u8],
-    f: Rule,
-    rule: Inference,
-    i: Serial,
-    a: Answer,
-) -> Result<Next, Refusal>
+pub fn closes(tree: &mut [u8], f: Rule, rule: u8, i: Serial, a: Answer) -> Result<Next, Refusal>
     requires { 16 * f.start.records + 16 ≤ length tree.old }
     ensures { (l goals ps work : List ℕ) → Resumes l (rooms tree.old goals ps work) (rooms tree.new goals ps work) f
         (Closes rule i) a.typ a.state result }
 {
     let done = f.answered(a);
-    let top = node(rule, f.term, done.typ, i, Serial::NONE, 1);
+    let top = node_record(rule, f.term, done.typ, i, Serial::NONE, 1);
     put_node(tree, f.start.records, top);
     Ok(Next::Done(done))
 }
@@ -104,5 +97,5 @@ pub fn abstracts(
         return Err(Reason::SynthNoProposition.at(r.child1));
     };
     let o = abstract_over(file, props, k, r.name1, i, t, b, a.state)?;
-    closes(tree, f, o.rule, i, proved(o.whole, o.state))
+    closes(tree, f, o.rule.number(), i, proved(o.whole, o.state))
 }

@@ -8,8 +8,7 @@ ghost use Rattle.rule.specs.Going.{Resumes};
 
 use numbers::refusal::Refusal;
 use numbers::{Proposition, Serial, Sort, Term};
-use step::inference::Inference;
-use step::node::{node, put_node};
+use step::node::{node_record, put_node};
 use step::state::{Answer, State, Want};
 
 // A rule under way: its term, what is wanted of it, and the counts at its start.
@@ -32,20 +31,20 @@ impl Rule {
     }
 }
 
-// What is left of a rule after a premise.
+// What is left of a rule after a premise. (A rule's number is any number here, and no `Inference`: what is promised of a rest holds of all.)
 #[derive(Clone, Copy)]
 pub enum Rest {
-    // One node, of what is answered: by this rule, and how many premises it had.
-    By(Inference, u16),
+    // One node, of what is answered: the rule's number, and how many premises it had.
+    By(u8, u16),
     // Pair, checked: the right part, held to this; then one node, by this rule.
-    Right(Inference, Proposition),
+    Right(u8, Proposition),
     // Pair, synthesized: the right part; then both types, of which this is the left's.
     Second,
     Both(Sort),
     // A projection: the part of what was found.
     Part,
     // Function, checked: one node, by this rule, with this serial.
-    Closes(Inference, Serial),
+    Closes(u8, Serial),
     // Function, synthesized: its conclusion, from the parameter's serial and type.
     Abstracts(Serial, Sort),
     // Application: the argument; then what an Impl concludes, or the body of a ForAll with this object in it.
@@ -82,19 +81,13 @@ pub(crate) fn proved(b: Proposition, state: State) -> Answer
 }
 
 // The end of a rule without serials of its own: its node, of what it answers, above so many premises.
-pub fn by(
-    tree: &mut [u8],
-    f: Rule,
-    rule: Inference,
-    premises: u16,
-    a: Answer,
-) -> Result<Next, Refusal>
+pub fn by(tree: &mut [u8], f: Rule, rule: u8, premises: u16, a: Answer) -> Result<Next, Refusal>
     requires { 16 * f.start.records + 16 ≤ length tree.old }
     ensures { (l goals ps work : List ℕ) → Resumes l (rooms tree.old goals ps work) (rooms tree.new goals ps work) f
         (By rule premises) a.typ a.state result }
 {
     let done = f.answered(a);
-    let top = node(rule, f.term, done.typ, Serial::NONE, Serial::NONE, premises);
+    let top = node_record(rule, f.term, done.typ, Serial::NONE, Serial::NONE, premises);
     put_node(tree, f.start.records, top);
     Ok(Next::Done(done))
 }

@@ -7,7 +7,7 @@ ghost use Rattle.step.specs.declared.state.Want.TheVariants.{Check};
 ghost use Rattle.step.specs.Rooms.{count_of, rooms};
 ghost use Rattle.rule.specs.Going.{Here, Room, Begins};
 
-use super::next::{Next, Rest, Rule};
+use super::next::{Next, Rest};
 use numbers::refusal::{Reason, Refusal};
 use numbers::{Sort, Term};
 use prop::head::Link;
@@ -32,5 +32,5 @@ pub fn check(file: &[u8], props: &[u8], k: Term, wanted: Sort, st: State) -> Res
         (Inference::OrIntroSnd, parts.right)
     };
     let held = Want::Check(Sort::Proposition(part));
-    Ok(Next::Ask(Rest::By(rule, 1), r.child1, held, st.inner()))
+    Ok(Next::Ask(Rest::By(rule.number(), 1), r.child1, held, st.inner()))
 }

@@ -41,7 +41,7 @@ pub fn check(
     };
     let r = term_record(file, k);
     let left = Want::Check(Sort::Proposition(parts.left));
-    let rest = Rest::Right(Inference::AndIntro, parts.right);
+    let rest = Rest::Right(Inference::AndIntro.number(), parts.right);
     Ok(Next::Ask(rest, r.child1, left, st.inner()))
 }
 
@@ -74,17 +74,11 @@ fn exists(
     };
     let s = st.grown(count, m.count).inner();
     let witness = Want::Check(Sort::Datatype(ex.datatype));
-    let rest = Rest::Right(Inference::ExistsIntro, m.at);
+    let rest = Rest::Right(Inference::ExistsIntro.number(), m.at);
     Ok(Next::Ask(rest, r.child1, witness, s))
 }
 
-pub fn right(
-    file: &[u8],
-    f: Rule,
-    rule: Inference,
-    b: Proposition,
-    st: State,
-) -> Result<Next, Refusal>
+pub fn right(file: &[u8], f: Rule, rule: u8, b: Proposition, st: State) -> Result<Next, Refusal>
     requires { Here file.now f.term.0 }
     ensures { (R : Rooms) (t : Sort) → Resumes file.now R R f (Right rule b) t st result }
 {
@@ -136,5 +130,5 @@ pub fn both(
         return Err(Reason::TooManyMade.at(k));
     };
     let whole = proved(m.at, a.state.grown(count, m.count));
-    by(tree, f, Inference::AndIntro, 2, whole)
+    by(tree, f, Inference::AndIntro.number(), 2, whole)
 }

@@ -41,5 +41,5 @@ pub fn part(file: &[u8], tree: &mut [u8], props: &[u8], f: Rule, a: Answer) -> R
     } else {
         (Inference::AndElimSnd, parts.right)
     };
-    by(tree, f, rule, 1, proved(part, a.state))
+    by(tree, f, rule.number(), 1, proved(part, a.state))
 }

@@ -1,5 +1,6 @@
 // A program's arguments: as text, as a number, and as the name of a file to write.
-ghost use Rattle.std.specs.Prelude.{◌<◌, ◌≤◌, length, IfSome};
+ghost use Rattle.std.specs.Prelude.{◌<◌, ◌≤◌, IfSome};
+ghost use Rattle.show.specs.Counts.{IsPrefixLen};
 
 use super::failure::{tell, tell_error};
 use std::env::FillError;
@@ -20,12 +21,12 @@ pub fn argument_count<R: Env>(rt: &R) -> usize {
     usize::MAX
 }
 
-// The text of argument i, which then stands at the start of the room; or `None` where it does not fit: standard error then says so.
-pub fn text_argument<'a, R: Env + Eprint>(rt: &R, i: usize, room: &'a mut [u8]) -> Option<&'a [u8]>
-    ensures { IfSome result (λ text. length text.now ≤ length room.old) }
+// The text of argument i at the start of the room. The answer counts its bytes, or is `None` where it does not fit; standard error then says so.
+pub fn text_argument<R: Env + Eprint>(rt: &R, i: usize, room: &mut [u8]) -> Option<usize>
+    ensures { IfSome result (λ n. IsPrefixLen n room.new) }
 {
     match rt.arg(i, room) {
-        Ok(n) => Some(&room[..n]),
+        Ok(n) => Some(n),
         Err(FillError::TooLong) => {
             tell(rt, "an argument", "File name too long");
             None
@@ -70,7 +71,9 @@ fn number_of(spelled: &[u8]) -> Option<u16> {
 
 // What argument i spells, where it is a number.
 pub fn number_argument<R: Env + Eprint>(rt: &R, i: usize) -> Option<u16> {
-    number_of(text_argument(rt, i, &mut [0; ARGUMENT])?)
+    let mut room = [0u8; ARGUMENT];
+    let n = text_argument(rt, i, &mut room)?;
+    number_of(&room[..n])
 }
 
 // A file's name as text, which is what the library opens; where it is none, standard error says so.
@@ -104,7 +107,8 @@ fn write_named<R: Files + Eprint>(rt: &R, spelled: &[u8], bytes: &[u8]) {
 
 // Writes the bytes to the file that argument i names. Where that fails, standard error says why.
 pub fn write_argument<R: Env + Files + Eprint>(rt: &R, i: usize, bytes: &[u8]) {
-    if let Some(spelled) = text_argument(rt, i, &mut [0; ARGUMENT]) {
-        write_named(rt, spelled, bytes);
+    let mut room = [0u8; ARGUMENT];
+    if let Some(n) = text_argument(rt, i, &mut room) {
+        write_named(rt, &room[..n], bytes);
     }
 }

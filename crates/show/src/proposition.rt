@@ -3,7 +3,8 @@
 use numbers::record::{Record, record_at};
 use prop::atom::{Parameter, parameter_at};
 use prop::node::{AND, ATOM, EXISTS, FALSE, FOR_ALL, IMPL, OR, TRUE};
-use std::fmt;
+use std::io::Write;
+use std::{fmt, io};
 
 fn parameter<W: fmt::Write>(f: &mut fmt::Formatter<W>, p: Parameter) -> fmt::Result {
     match p {
@@ -23,7 +24,11 @@ fn atom<W: fmt::Write>(f: &mut fmt::Formatter<W>, r: Record) -> fmt::Result {
 }
 
 // Proposition n. Its parts have smaller numbers.
-pub fn proposition<W: fmt::Write>(f: &mut fmt::Formatter<W>, room: &[u8], n: u16) -> fmt::Result {
+pub fn format_proposition<W: fmt::Write>(
+    f: &mut fmt::Formatter<W>,
+    room: &[u8],
+    n: u16,
+) -> fmt::Result {
     let i = usize::from(n);
     if room.len() < 16 * i + 16 {
         return Ok(());
@@ -40,11 +45,11 @@ pub fn proposition<W: fmt::Write>(f: &mut fmt::Formatter<W>, room: &[u8], n: u16
             };
             write!(f, "({link} ")?;
             if r.a < n {
-                proposition(f, room, r.a)?;
+                format_proposition(f, room, r.a)?;
             }
             write!(f, " ")?;
             if r.b < n {
-                proposition(f, room, r.b)?;
+                format_proposition(f, room, r.b)?;
             }
             write!(f, ")")
         }
@@ -52,10 +57,27 @@ pub fn proposition<W: fmt::Write>(f: &mut fmt::Formatter<W>, room: &[u8], n: u16
             let quantifier = if r.kind == FOR_ALL { 'A' } else { 'E' };
             write!(f, "({quantifier} n{} n{} ", r.a, r.b)?;
             if r.c < n {
-                proposition(f, room, r.c)?;
+                format_proposition(f, room, r.c)?;
             }
             write!(f, ")")
         }
         ATOM..=255 => atom(f, r),
     }
+}
+
+#[derive(Clone, Copy)]
+struct Written<'a> {
+    room: &'a [u8],
+    n: u16,
+}
+
+impl fmt::Display for Written<'_> {
+    fn fmt<W: fmt::Write>(&self, f: &mut fmt::Formatter<W>) -> fmt::Result {
+        format_proposition(f, self.room, self.n)
+    }
+}
+
+// The same for a writer of bytes.
+pub fn proposition<W: Write>(out: &mut W, room: &[u8], n: u16) -> io::Result<()> {
+    write!(out, "{}", Written { room, n })
 }

@@ -1,6 +1,6 @@
 // An acceptance: its counts, tree records and goals, a line each. `{}` writes the short form, which is document 01's; `{:#}` writes the whole one, which
 // says in each line what the record concludes or the goal wants, too, and ends with the other counts.
-use super::proposition::proposition;
+use super::proposition::format_proposition;
 use numbers::{Serial, Sort};
 use std::fmt;
 use step::node::{NodeRecord, goal_at, node_at};
@@ -52,7 +52,7 @@ impl Accepted<'_> {
     fn conclusion<W: fmt::Write>(&self, f: &mut fmt::Formatter<W>, r: NodeRecord) -> fmt::Result {
         write!(f, " | ")?;
         match r.conclusion {
-            Sort::Proposition(p) => proposition(f, self.props, p.0),
+            Sort::Proposition(p) => format_proposition(f, self.props, p.0),
             Sort::Datatype(d) => write!(f, "s{} : n{}", r.first.0, d.0),
         }
     }
@@ -66,7 +66,7 @@ impl Accepted<'_> {
         write!(f, "goal {} {}", g.term.0, g.context)?;
         if f.alternate() {
             write!(f, " | ")?;
-            proposition(f, self.props, g.proposition.0)?;
+            format_proposition(f, self.props, g.proposition.0)?;
         }
         writeln!(f)
     }

@@ -1,15 +1,17 @@
--- Laws of the counts, of the tree's records and of the goals; and what `shift` does. Assumes nothing.
-use mathlib.Core.Path.{◌≡◌, refl, ap, ap₂, sym, ◌∙◌}
-use mathlib.Core.List.{List, [], ◌∷◌}
+-- Laws of the counts, of the tree's records and of the goals; and the loop of `shift`. Assumes nothing.
+use mathlib.Core.Path.{◌≡◌, refl, ap, sym, ◌∙◌}
+use mathlib.Core.List.{List}
+use mathlib.Core.Logic.{◌⊎◌, inl, inr}
 use Prim.Native.Nat.{ℕ, ◌+◌, ◌-◌, ◌*◌, ◌<◌, ◌≤◌}
 use native.Mathlib.Omega.{arith}
-use lib.ListN.{length, get_or, length-set}
-use Rattle.std.specs.List.{CopiedTo, SameBelow}
+use native.Mathlib.Nat.{eq-or-lt_of_le}
+use lib.ListN.{length, length-set}
 use Rattle.numbers.specs.declared.Term.{Term}
 use Rattle.numbers.specs.declared.Proposition.{Proposition as Number}
 use Rattle.numbers.specs.declared.Sort.{Sort}
 use Rattle.numbers.specs.declared.Sort.TheVariants.{Proposition, Datatype}
-use Rattle.numbers.specs.Records.{word_at, put_word, record_at}
+use Rattle.numbers.specs.declared.record.Record.{Record}
+use Rattle.numbers.specs.Records.{word_at, put_word, record_at, Put}
 use Rattle.numbers.proofs.Records.{word_far, word_same}
 use Rattle.layout.specs.declared.record.TermRecord.{TermRecord}
 use Rattle.layout.specs.File.{props, as_term, term_record}
@@ -98,28 +100,44 @@ module _ (w : List ℕ) (n : ℕ) (g : Goal) where
 pub goal_put : (w w₁ w₂ w₃ w₄ : List ℕ) (n m : ℕ) (g : Goal) → m ≡ n → 8 * n + 8 ≤ length w → w₁ ≡ put_word w (8 * m) g.term.0 → w₂ ≡ put_word w₁ (8 * m + 2) g.proposition.0 → w₃ ≡ put_word w₂ (8 * m + 4) g.context → w₄ ≡ put_word w₃ (8 * m + 6) g.zero → PutGoal w n g w₄
 goal_put w w₁ w₂ w₃ w₄ n m g e h q₁ q₂ q₃ q₄ = let q : w₄ ≡ put_goal w m g = cc in rw (q, e) (put_is w n g h)
 
--- A RECORD is what its sixteen bytes say, wherever they stand
-record_moved : (old new : List ℕ) (m n : ℕ) → ((i j : ℕ) → 16 * n ≤ i → i < 16 * n + 16 → i + 16 * m ≡ j + 16 * n → get_or new i 0 ≡ get_or old j 0) → record_at new n ≡ record_at old m
-unfolding record_at
-record_moved old new m n h =
-    let w : (k : ℕ) → k < 15 → word_at new (16 * n + k) ≡ word_at old (16 * m + k) =
-    λ k l. ap₂ (λ (a b : ℕ). a + 256 * b) (h (16 * n + k) (16 * m + k) (omega arith) (omega arith) (omega arith)) (h (16 * n + k + 1) (16 * m + k + 1) (omega arith) (omega arith) (omega arith)) in
-    let kind = h (16 * n) (16 * m) (omega arith) (omega arith) (omega arith) in
-    let count = h (16 * n + 1) (16 * m + 1) (omega arith) (omega arith) (omega arith) in
-    let a = w 2 (omega arith) in
-    let b = w 4 (omega arith) in
-    let c = w 6 (omega arith) in
-    let p = w 8 (omega arith) in
-    let q = w 10 (omega arith) in
-    let r = w 12 (omega arith) in
-    let s = w 14 (omega arith) in
-    λ i. record { kind = kind i; count = count i; a = a i; b = b i; c = c i; parameters = p i ∷ q i ∷ r i ∷ s i ∷ [] }
+-- THE LOOP OF `shift`: the records from i up have moved, the last first
+pub record Moving (old : List ℕ) (low high i : ℕ) (new : List ℕ) : Type 0 where
+  pub size : length new ≡ length old
+  pub least : low ≤ i
+  pub most : i ≤ high
+  pub room : 16 * high + 16 ≤ length new
+  pub kept : (m : ℕ) → m ≤ i → record_at new m ≡ record_at old m
+  pub moved : (m : ℕ) → i ≤ m → m < high → record_at new (m + 1) ≡ record_at old m
 
--- what `copy_within` does is a shift, if it is from record `low` on to the next
-pub shifted : (old new : List ℕ) (low high a b : ℕ) → a ≡ low → b ≡ high → low ≤ high → length new ≡ length old → CopiedTo old new (16 * a) (16 * a + 16) (16 * b - 16 * a) → SameBelow old new (16 * a + 16) → Shifted low high old new
-shifted old new low high a b ea eb h size copied same =
-    record {
-      size = size;
-      moved = λ m l k. record_moved old new m (m + 1) (λ i j lo hi e. copied i 0 (omega arith) (omega arith) ∙ ap (λ (j : ℕ). get_or old j 0) (omega arith));
-      below = λ m l. record_moved old new m m (λ i j lo hi e. same i 0 (omega arith) ∙ ap (λ (j : ℕ). get_or old j 0) (omega arith));
-    }
+pub moving_none : (t : List ℕ) (low high : ℕ) → low ≤ high → 16 * high + 16 ≤ length t → Moving t low high high t
+moving_none t low high h r =
+    record { size = refl; least = h; most = omega arith; room = r; kept = λ m l. refl; moved = λ m l k. absurd (omega arith) }
+
+module _ (old : List ℕ) (low high i : ℕ) (t : List ℕ) (s : Moving old low high i t) where
+  pub moving_read : low < i → 16 * (i - 1) + 16 ≤ length t
+  moving_read h = omega (arith, s.most, s.room)
+
+  pub moving_write : low < i → 16 * (i - 1 + 1) + 16 ≤ length t
+  moving_write h = omega (arith, s.most, s.room)
+
+  pub moving_more : (u : List ℕ) (r : Record) → low < i → r ≡ record_at t (i - 1) → Put t (i - 1 + 1) r u → Moving old low high (i - 1) u
+  moving_more u r l er put =
+      record {
+        size = put.size ∙ s.size;
+        least = omega arith;
+        most = omega (arith, s.most);
+        room = omega (arith, s.room, put.size);
+        kept = λ m h. put.others m (omega arith) ∙ s.kept m (omega arith);
+        moved = λ m h k. go m k (eq-or-lt_of_le h);
+      }
+    where
+      next : (m : ℕ) → i - 1 ≡ m → m + 1 ≡ i - 1 + 1
+      next m e = omega arith
+
+      go : (m : ℕ) → m < high → (i - 1 ≡ m) ⊎ (i - 1 < m) → record_at u (m + 1) ≡ record_at old m
+      go m k (inl e) = ap (record_at u) (next m e) ∙ put.here ∙ er ∙ s.kept (i - 1) (omega arith) ∙ ap (record_at old) e
+      go m k (inr h) = put.others (m + 1) (omega arith) ∙ s.moved m (omega arith) k
+
+  pub moving_done : i ≤ low → Shifted low high old t
+  moving_done h =
+      record { size = s.size; moved = λ m l k. s.moved m (omega (arith, s.least)) k; below = λ m l. s.kept m (omega (arith, s.least)) }

@@ -1,19 +1,18 @@
--- The functions of a goal's picture: what copying entries does, and what the head's stores and words are. Assumes nothing.
-use mathlib.Core.Path.{◌≡◌, ap, ap₂, subst, ◌∙◌}
+-- The functions of a goal's picture: the loop that copies entries, and what the head's stores and words are. Assumes nothing.
+use mathlib.Core.Path.{◌≡◌, refl, ap, ap₂, sym, subst, ◌∙◌}
 use mathlib.Core.List.{List}
 use mathlib.Core.Logic.{◌⊎◌, inl, inr}
-use Prim.Native.Nat.{ℕ, ◌+◌, ◌-◌, ◌*◌, ◌/◌, ◌%◌, ◌<◌, ◌≤◌}
+use Prim.Native.Nat.{ℕ, ◌+◌, ◌*◌, ◌/◌, ◌%◌, ◌<◌, ◌≤◌}
+use native.Mathlib.Nat.{eq-or-lt_of_le}
 use native.Mathlib.Omega.{arith}
 use lib.ListN.{length, get_or, set}
-use Rattle.std.specs.List.{CopiedTo, SameBelow, SameFrom}
-use Rattle.std.proofs.lemmas.Bool.{cases_lt}
 use lib.Seq.{get_or-set_other}
 use Rattle.numbers.specs.declared.Sort.{Sort}
 use Rattle.numbers.specs.Limits.{none}
 use Rattle.numbers.specs.Records.{word_at, put_word}
 use Rattle.numbers.proofs.Records.{length_word, word_far, word_same}
 use Rattle.context.specs.declared.identifier_context.Entry.{Entry}
-use Rattle.context.specs.Context.{most_entries, context_room, entry_at, sort_of, Inserted}
+use Rattle.context.specs.Context.{most_entries, context_room, entry_at, Inserted}
 use Rattle.context.proofs.Laws.{entry_kept}
 use Rattle.step.specs.declared.state.State.{State}
 use Rattle.step.specs.Rooms.{first_pictured, run_room, starting}
@@ -24,31 +23,41 @@ byte_far l i v j h =
     get_or-set_other (set l i (v % 256)) (i + 1) j (v / 256) 0 (λ e. h (omega arith) (omega arith))
     ∙ get_or-set_other l i j (v % 256) 0 (λ e. h (omega arith) (omega arith))
 
--- AN ENTRY is what its eight bytes say, wherever they stand
-entry_moved : (old new : List ℕ) (m n : ℕ) → ((i j : ℕ) → 8 * n ≤ i → i < 8 * n + 8 → i + 8 * m ≡ j + 8 * n → get_or new i 0 ≡ get_or old j 0) → entry_at new n ≡ entry_at old m
-unfolding entry_at
-entry_moved old new m n h =
-    let w : (k : ℕ) → k < 7 → word_at new (8 * n + k) ≡ word_at old (8 * m + k) =
-    λ k l. ap₂ (λ (a b : ℕ). a + 256 * b) (h (8 * n + k) (8 * m + k) (omega arith) (omega arith) (omega arith)) (h (8 * n + k + 1) (8 * m + k + 1) (omega arith) (omega arith) (omega arith)) in
-    let x : word_at new (8 * n) ≡ word_at old (8 * m) =
-    ap₂ (λ (a b : ℕ). a + 256 * b) (h (8 * n) (8 * m) (omega arith) (omega arith) (omega arith)) (h (8 * n + 1) (8 * m + 1) (omega arith) (omega arith) (omega arith)) in
-    let s = w 2 (omega arith) in
-    let t = w 4 (omega arith) in
-    let k = w 6 (omega arith) in
-    λ i. record { name = record { 0 = x i }; serial = record { 0 = s i }; typ = sort_of (t i) (k i) }
+-- COPYING, one entry after the other
+abbrev pub Apart : (from to n : ℕ) → Type 0
+Apart from to n = (from + n ≤ to) ⊎ (to + n ≤ from)
 
--- what `copy_within` does to entries
-pub copied_entries : (old new : List ℕ) (from to n k : ℕ) → k ≡ n → length new ≡ length old → CopiedTo old new (8 * from) (8 * to) (8 * (from + k) - 8 * from) → SameBelow old new (8 * to) → SameFrom old new (8 * to + (8 * (from + k) - 8 * from)) → Copied old from to n new
-copied_entries old new from to n k same size copied below above =
-    record {
-      size = size;
-      entries = λ m l. entry_moved old new (from + m) (to + m) (λ i j lo hi e. copied i 0 (omega arith) (omega arith) ∙ ap (λ (j : ℕ). get_or old j 0) (omega arith));
-      outside = λ i h. at i h (cases_lt i (8 * to));
-    }
-  where
-    at : (i : ℕ) → (8 * to ≤ i → i < 8 * (to + n) → ⊥) → (i < 8 * to) ⊎ (8 * to ≤ i) → get_or new i 0 ≡ get_or old i 0
-    at i h (inl l) = below i 0 l
-    at i h (inr l) = above i 0 (omega arith)
+pub copied_none : (w : List ℕ) (from to : ℕ) → Copied w from to 0 w
+copied_none w from to = record { size = refl; entries = λ i h. absurd (omega arith); outside = λ i h. refl }
+
+module _ (old : List ℕ) (from to n i : ℕ) (w : List ℕ) (apart : Apart from to n) (few : i < n) (c : Copied old from to i w) where
+  pub copied_read : 8 * (from + n) ≤ length old → 8 * (from + i) + 8 ≤ length w
+  copied_read h = omega (arith, c.size)
+
+  pub copied_write : 8 * (to + n) ≤ length old → 8 * (to + i) + 8 ≤ length w
+  copied_write h = omega (arith, c.size)
+
+  -- what is read is as it was before the first
+  unread : Apart from to n → (j : ℕ) → 8 * (from + i) ≤ j → j < 8 * (from + i) + 8 → 8 * to ≤ j → j < 8 * (to + i) → ⊥
+  unread (inl h) j lo hi lo' hi' = absurd (omega arith)
+  unread (inr h) j lo hi lo' hi' = absurd (omega arith)
+
+  pub copied_more : (e : Entry) (new : List ℕ) → e ≡ entry_at w (from + i) → Inserted w (to + i) e new → Copied old from to (i + 1) new
+  copied_more e new read ins =
+      record {
+        size = ins.size ∙ c.size;
+        entries = λ j h. at j (eq-or-lt_of_le (omega arith));
+        outside = λ j h. ins.outside j (λ lo hi. h (omega arith) (omega arith)) ∙ c.outside j (λ lo hi. h lo (omega arith));
+      }
+    where
+      at : (j : ℕ) → (j ≡ i) ⊎ (j < i) → entry_at new (to + j) ≡ entry_at old (from + j)
+      at j (inl q) =
+          ap (λ (j : ℕ). entry_at new (to + j)) q
+          ∙ ins.here
+          ∙ read
+          ∙ entry_kept old w (from + i) (λ k lo hi. c.outside k (unread apart k lo hi))
+          ∙ ap (λ (j : ℕ). entry_at old (from + j)) (sym q)
+      at j (inr h) = ins.others (to + j) (omega arith) ∙ c.entries j h
 
 -- TAKING: the three counts, the type and the entries, with a name for the room after each
 module _ (w w₁ w₂ w₃ w₄ w₅ : List ℕ) (T : Sort) (st : State) (e : Entry) (room : run_room ≤ length w) (few : st.context ≤ most_entries) (q₁ : w₁ ≡ put_word w serials_at st.serials)

@@ -1,5 +1,5 @@
 // The picture of a goal: what the rules knew at one Sorry of a run, kept in the work room behind the context's entries, for a filling to start from.
-ghost use Rattle.std.specs.Prelude.{◌≡◌, ◌+◌, ◌*◌, ◌≤◌, length};
+ghost use Rattle.std.specs.Prelude.{◌≡◌, ◌⊎◌, ◌+◌, ◌*◌, ◌≤◌, length};
 ghost use Rattle.context.specs.Context.{most_entries};
 ghost use Rattle.step.specs.Rooms.{first_pictured, run_room};
 ghost use Rattle.step.specs.Picture.{pictured_state, pictured_type, Copied, Taken, Pictured};
@@ -27,12 +27,16 @@ const TYPE: usize = LIMIT + 1;
 
 const FIRST: usize = LIMIT + 2;
 
-// The n entries from one number on, copied to another number on. An entry takes eight bytes.
+// The n entries from one number on, copied to another number on. They do not overlap. (Entry by entry, as `shift` moves records.)
 fn copy_entries(work: &mut [u8], from: usize, to: usize, n: u16)
-    requires { (8 * (from + n) ≤ length work.old) × (8 * (to + n) ≤ length work.old) }
+    requires n_in_bounds { (8 * (from + n) ≤ length work.old) × (8 * (to + n) ≤ length work.old) }
+    requires apart { (from + n ≤ to) ⊎ (to + n ≤ from) }
     ensures { Copied work.old from to n work.new }
 {
-    work.copy_within(8 * from..8 * (from + usize::from(n)), 8 * to);
+    for i in 0..n {
+        let e = entry_at(work, from + i as usize);
+        insert(work, to + i as usize, e);
+    }
 }
 
 // What is known at a Sorry that wants this type.

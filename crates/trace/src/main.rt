@@ -35,7 +35,8 @@ fn answer<W: Write>(out: &mut W, file: &[u8]) -> io::Result<()> {
 // The answer to the next table, which has that length.
 fn next<R: Read, W: Write>(from: &mut R, out: &mut W, size: usize) -> io::Result<()> {
     let mut room = [0u8; LONGEST];
-    answer(out, read_table(from, &mut room, size))
+    let n = read_table(from, &mut room, size);
+    answer(out, &room[..n])
 }
 
 fn main(rt: HostRuntime) -> io::Result<()> {

@@ -54,12 +54,12 @@ fn goal_number(n: usize) -> u16 {
 // The answer to the next filling, of an old table that has that length.
 fn next<R: Read, W: Write>(from: &mut R, out: &mut W, size: usize) -> io::Result<()> {
     let mut old = [0u8; LONGEST];
-    let old = read_table(from, &mut old, size);
+    let n = read_table(from, &mut old, size);
     let goal = goal_number(next_word(from));
     let mut filling = [0u8; LONGEST];
     let size = next_word(from);
-    let filling = read_table(from, &mut filling, size);
-    answer(out, old, goal, filling)
+    let m = read_table(from, &mut filling, size);
+    answer(out, &old[..n], goal, &filling[..m])
 }
 
 // (As in `trace`: the loop is `show::each`, and each program has a `main`.)

@@ -20,7 +20,6 @@ returns-in-Ok-clause-marked c =
 pub returns-in-Err-clause-marked : goal.returns-in-Err-clause-marked
 returns-in-Err-clause-marked c =
     let run = c.run in
-    rw c.refuse.ensures.answer
-    (marked_over c.args.file.now (held c.args.lent.now) (held run.new.lent) _ _ c.requires
+    marked_over c.args.file.now (held c.args.lent.now) (held run.new.lent) _ _ c.requires
     (record { tree = run.ensures.same_rooms.tree_long ∙ c.requires.tree; goals = run.ensures.same_rooms.goals_long ∙ c.requires.goals; props = run.ensures.same_rooms.props_long ∙ c.requires.props; work = run.ensures.same_rooms.work_long ∙ c.requires.work })
-    (table_run c.args.file.now) (finish_refused _ _ _ _ _ c.in-Err.ensures.ran c.refuse.ensures.emptied))
+    (table_run c.args.file.now) (finish_refused _ _ _ _ _ c.in-Err.ensures.ran c.clear_rooms.ensures.emptied)

@@ -5,4 +5,4 @@ pub returns-in_default : goal.returns-in_default
 returns-in_default c = λ l goals ps work. record { goes = λ R₀ a. search aborts_data }
 
 pub returns : goal.returns
-returns c = λ l goals ps work. record { goes = λ R₀ a. (c.by.ensures l goals ps work).goes R₀ (aborts_by a _ c.answered.ensures _ c.in-Proposition.is) }
+returns c = λ l goals ps work. record { goes = λ R₀ a. (rw c.number.ensures at c.by.ensures l goals ps work).goes R₀ (aborts_by a _ c.answered.ensures _ c.in-Proposition.is) }

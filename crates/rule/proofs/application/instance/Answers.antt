@@ -6,7 +6,7 @@ pub returns-in_default : goal.returns-in_default
 returns-in_default c = λ goals work t. record { goes = λ R₀ a. let is = c.in_default.ensures in search instance_full }
 
 pub returns : goal.returns
-returns c = λ goals work t. record { goes = λ R₀ a. (rw c.proved-whole.ensures at c.by.ensures c.args.file.now goals _ work).goes R₀ (instance_made a _ c.count-count.ensures _ c.left.ensures _ _ c.in-Some.ensures _ c.grown.ensures) }
+returns c = λ goals work t. record { goes = λ R₀ a. (rw (c.number.ensures, c.proved-whole.ensures) at c.by.ensures c.args.file.now goals _ work).goes R₀ (instance_made a _ c.count-count.ensures _ c.left.ensures _ _ c.in-Some.ensures _ c.grown.ensures) }
 
 pub grown-requires : goal.grown-requires
 grown-requires c = (search put_more, search put_few)

@@ -11,4 +11,4 @@ returns-in_err-o c =
     rw (p.1, p.2) (λ goals work. record { goes = λ R₀ a. let is = c.in_err-o.ensures in search abstracts_full })
 
 pub returns : goal.returns
-returns c = λ goals work. record { goes = λ R₀ a. (rw c.proved.ensures at c.closes.ensures c.args.file.now goals _ work).goes R₀ (abstracts_to a _ c.term_record-r.ensures _ c.in-Proposition.is _ _ c.in_ok-o.ensures) }
+returns c = λ goals work. record { goes = λ R₀ a. (rw (c.number.ensures, c.proved.ensures) at c.closes.ensures c.args.file.now goals _ work).goes R₀ (abstracts_to a _ c.term_record-r.ensures _ c.in-Proposition.is _ _ c.in_ok-o.ensures) }

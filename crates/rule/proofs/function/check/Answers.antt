@@ -21,7 +21,7 @@ returns-in_err-s c =
 pub returns : goal.returns
 returns c =
     let made = c.new_identifier-made in
-    λ tree goals. record { begins = λ rd. asking 3 (λ r. r.child1) _ c.term_record-r.ensures _ refl (function_begins rd c.requires.k_value _ c.term_record-r.ensures c.args.wanted c.requires.type_in _ c.inner.ensures made.result.identifier made.result.state made.ensures.0 made.ensures.1 made.ensures.2 _ _ c.in_ok-o.ensures _ c.annotation_of.ensures _ _ c.in_ok-s.ensures _ _ c.enter-entered.ensures.0 c.enter-entered.ensures.1) (omega arith) }
+    rw c.number.ensures (λ tree goals. record { begins = λ rd. asking 3 (λ r. r.child1) _ c.term_record-r.ensures _ refl (function_begins rd c.requires.k_value _ c.term_record-r.ensures c.args.wanted c.requires.type_in _ c.inner.ensures made.result.identifier made.result.state made.ensures.0 made.ensures.1 made.ensures.2 _ _ c.in_ok-o.ensures _ c.annotation_of.ensures _ _ c.in_ok-s.ensures _ _ c.enter-entered.ensures.0 c.enter-entered.ensures.1) (omega arith) })
 
 pub agree-requires-clause-loaded : goal.agree-requires-clause-loaded
 agree-requires-clause-loaded c =

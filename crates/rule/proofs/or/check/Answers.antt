@@ -11,7 +11,7 @@ returns-in_default c = λ tree goals work. record { begins = λ rd. or_other rd 
 pub returns : goal.returns
 returns c = λ tree goals work. record {
   begins = λ rd. elim c.if-r-eq7.branch [
-    | then-r-eq7 w ↦ rw w.rule-is (asking 3 (λ r. r.child1) _ c.term_record-r.ensures _ c.inner.ensures (or_first rd c.args.wanted c.requires.room.1 c.requires.bound _ c.held.ensures.count _ (rw c.held.ensures.room at c.in-Some.ensures) _ c.term_record-r.ensures (eq-eqb _ 7 w.if-r-eq7.true)) (omega arith))
-    | else-r-eq7 w ↦ rw w.rule-is (asking 3 (λ r. r.child1) _ c.term_record-r.ensures _ c.inner.ensures (or_second rd c.args.wanted c.requires.room.1 c.requires.bound _ c.held.ensures.count _ (rw c.held.ensures.room at c.in-Some.ensures) _ c.term_record-r.ensures (ne_eqb _ 7 w.if-r-eq7.false)) (omega arith))
+    | then-r-eq7 w ↦ rw (c.number.ensures, w.rule-is) (asking 3 (λ r. r.child1) _ c.term_record-r.ensures _ c.inner.ensures (or_first rd c.args.wanted c.requires.room.1 c.requires.bound _ c.held.ensures.count _ (rw c.held.ensures.room at c.in-Some.ensures) _ c.term_record-r.ensures (eq-eqb _ 7 w.if-r-eq7.true)) (omega arith))
+    | else-r-eq7 w ↦ rw (c.number.ensures, w.rule-is) (asking 3 (λ r. r.child1) _ c.term_record-r.ensures _ c.inner.ensures (or_second rd c.args.wanted c.requires.room.1 c.requires.bound _ c.held.ensures.count _ (rw c.held.ensures.room at c.in-Some.ensures) _ c.term_record-r.ensures (ne_eqb _ 7 w.if-r-eq7.false)) (omega arith))
   ];
 }

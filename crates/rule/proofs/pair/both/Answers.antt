@@ -12,7 +12,7 @@ pub returns-in_default-make_and : goal.returns-in_default-make_and
 returns-in_default-make_and c = λ goals work. record { goes = λ R₀ a. let is = c.in_default-make_and.ensures in search both_full }
 
 pub returns : goal.returns
-returns c = λ goals work. record { goes = λ R₀ a. (rw c.proved-whole.ensures at c.by.ensures c.args.file.now goals _ work).goes R₀ (both_made a _ c.in-Proposition.is _ c.in-Proposition-t.is _ c.count-count.ensures _ c.left.ensures _ _ c.in-Some.ensures _ c.grown.ensures) }
+returns c = λ goals work. record { goes = λ R₀ a. (rw (c.number.ensures, c.proved-whole.ensures) at c.by.ensures c.args.file.now goals _ work).goes R₀ (both_made a _ c.in-Proposition.is _ c.in-Proposition-t.is _ c.count-count.ensures _ c.left.ensures _ _ c.in-Some.ensures _ c.grown.ensures) }
 
 pub grown-requires : goal.grown-requires
 grown-requires c = (search made_more, search made_few)

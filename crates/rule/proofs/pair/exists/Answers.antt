@@ -22,7 +22,7 @@ returns-in_err-i c =
     rw (p.1, p.2) (λ tree goals. record { begins = λ rd. exists_object rd c.requires.k_value c.args.wanted c.requires.room.1 c.requires.unsplit _ c.held-held.ensures.count _ (rw c.held-held.ensures.room at c.in-Some.ensures) _ c.term_record-r.ensures _ (c.in_err-i.ensures c.args.props.now) })
 
 pub returns : goal.returns
-returns c = λ tree goals. record { begins = λ rd. asking 3 (λ r. r.child1) _ c.term_record-r.ensures _ c.inner-s.ensures (exists_begins rd c.requires.k_value c.args.wanted c.requires.room.1 c.requires.unsplit _ c.held-held.ensures.count _ (rw c.held-held.ensures.room at c.in-Some.ensures) _ c.term_record-r.ensures _ (c.in_ok-i.ensures c.args.props.now) _ c.left.ensures _ _ c.in-Some-put_in.ensures _ c.grown.ensures) (omega arith) }
+returns c = rw c.number.ensures (λ tree goals. record { begins = λ rd. asking 3 (λ r. r.child1) _ c.term_record-r.ensures _ c.inner-s.ensures (exists_begins rd c.requires.k_value c.args.wanted c.requires.room.1 c.requires.unsplit _ c.held-held.ensures.count _ (rw c.held-held.ensures.room at c.in-Some.ensures) _ c.term_record-r.ensures _ (c.in_ok-i.ensures c.args.props.now) _ c.left.ensures _ _ c.in-Some-put_in.ensures _ c.grown.ensures) (omega arith) })
 
 pub object_of-requires-clause-t_bound : goal.object_of-requires-clause-t_bound
 object_of-requires-clause-t_bound c = subst⁻¹ (λ (r : TermRecord). r.child1.0 < terms c.args.file.now) c.term_record-r.ensures (pair_first c.requires.here.0.0 c.requires.here.0.1 c.requires.k_value).1

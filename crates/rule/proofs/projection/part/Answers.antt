@@ -9,7 +9,7 @@ returns-in_default c = λ goals work. record { goes = λ R₀ a. let is = rw c.h
 pub returns : goal.returns
 returns c = λ goals work. record {
   goes = λ R₀ a. (rw c.proved.ensures at c.by.ensures c.args.file.now goals _ work).goes R₀ (elim c.if-r-eq2.branch [
-    | then-r-eq2 w ↦ rw w.rule-is (part_first a _ c.held.ensures.count _ (rw c.held.ensures.room at c.in-Some.ensures) _ c.term_record-r.ensures (eq-eqb _ 2 w.if-r-eq2.true))
-    | else-r-eq2 w ↦ rw w.rule-is (part_second a _ c.held.ensures.count _ (rw c.held.ensures.room at c.in-Some.ensures) _ c.term_record-r.ensures (ne_eqb _ 2 w.if-r-eq2.false))
+    | then-r-eq2 w ↦ rw (c.number.ensures, w.rule-is) (part_first a _ c.held.ensures.count _ (rw c.held.ensures.room at c.in-Some.ensures) _ c.term_record-r.ensures (eq-eqb _ 2 w.if-r-eq2.true))
+    | else-r-eq2 w ↦ rw (c.number.ensures, w.rule-is) (part_second a _ c.held.ensures.count _ (rw c.held.ensures.room at c.in-Some.ensures) _ c.term_record-r.ensures (ne_eqb _ 2 w.if-r-eq2.false))
   ]);
 }

@@ -68,8 +68,11 @@ begun_among c kind {v} w e among = subst⁻¹ (WantIn c) e (at (synthesizes kind
     at true = tt
     at false = among
 
+pub next_as : (l : List ℕ) (R R' : Rooms) (k : ℕ) (st : State) (j : ℕ) (n : Result Next Refusal) {v w : Want} → v ≡ w → NextIs l R k w st j R' n → NextIs l R k v st j R' n
+next_as l R R' k st j n e b = subst⁻¹ (λ (v : Want). NextIs l R k v st j R' n) e b
+
 pub begins_as : {l : List ℕ} {R R' : Rooms} {k : ℕ} {st : State} {v w : Want} {n : Result Next Refusal} → v ≡ w → Begins l R R' k w st n → Begins l R R' k v st n
-begins_as {l} {R} {R'} {k} {st} {n = n} e b = subst⁻¹ (λ (v : Want). Begins l R R' k v st n) e b
+begins_as e b = record { begins = λ rd. next_as _ _ _ _ _ _ _ e (b.begins rd); names = b.names }
 
 -- THE TERM k, which is wanted as w and begun as v: at each turn of the loop some children are left
 module _ (l : List ℕ) (R₀ : Rooms) (k : Place) (v : Want) (st : State) where
@@ -82,8 +85,12 @@ module _ (l : List ℕ) (R₀ : Rooms) (k : Place) (v : Want) (st : State) where
   abbrev pub Going : Rooms → Next → Type 0
   Going R n = Goes R (Ok n)
 
+  -- (`goes_first`, `goes_again` and `goes_less` take of a contract only what they use: `begins` or `goes`)
+  pub goes_first : Ready l R₀ k.0 st → (R : Rooms) (n : Result Next Refusal) → (Ready l R₀ k.0 st → NextIs l R₀ k.0 v st 3 R n) → Goes R n
+  goes_first rd R n begins = (3, begins rd)
+
   pub go_first : Ready l R₀ k.0 st → (R : Rooms) (n : Result Next Refusal) → Begins l R₀ R k.0 v st n → Goes R n
-  go_first rd R n b = (3, b.begins rd)
+  go_first rd R n b = goes_first rd R n b.begins
 
   module _ (R : Rooms) (n : Next) (g : Going R n) where
     pub told : (m : Next) → n ≡ m → NextIs l R₀ k.0 v st g.0 R (Ok m)
@@ -123,14 +130,23 @@ module _ (l : List ℕ) (R₀ : Rooms) (k : Place) (v : Want) (st : State) where
           abbrev R₂ : Rooms
           R₂ = rooms tr R₁.goals ps wk
 
-          pub go_again : (o : Result Next Refusal) → Resumes l R₁ R₂ f q a.typ s₂ o → Goes R₂ o
-          go_again o rs = (_, rs.goes R₀ resumed)
+          abbrev GoesOn : Result Next Refusal → Type 0
+          GoesOn o = (R : Rooms) → Resumed l R f R₁ q a.typ s₂ → NextIs l R k.0 v st (length (after (term_record l k.0) q)) R₂ o
 
-          pub go_less : (m : Next) → Resumes l R₁ R₂ f q a.typ s₂ (Ok m) → left l k.0 m < left l k.0 n
-          go_less m rs =
-              let fewer = left_below l R₀ k.0 v st R₂ _ m (rs.goes R₀ resumed) in
+          pub goes_again : (o : Result Next Refusal) → GoesOn o → Goes R₂ o
+          goes_again o goes = (_, goes R₀ resumed)
+
+          pub goes_less : (m : Next) → GoesOn (Ok m) → left l k.0 m < left l k.0 n
+          goes_less m goes =
+              let fewer = left_below l R₀ k.0 v st R₂ _ m (goes R₀ resumed) in
               let was = ap (left l k.0) e in
               omega (arith, fewer, was)
+
+          pub go_again : (o : Result Next Refusal) → Resumes l R₁ R₂ f q a.typ s₂ o → Goes R₂ o
+          go_again o rs = goes_again o rs.goes
+
+          pub go_less : (m : Next) → Resumes l R₁ R₂ f q a.typ s₂ (Ok m) → left l k.0 m < left l k.0 n
+          go_less m rs = goes_less m rs.goes
 
     -- what becomes of the term
     module _ (rd : Ready l R₀ k.0 st) (w : Want) (ev : v ≡ begun_as (term_record l k.0).kind w) where

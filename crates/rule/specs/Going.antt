@@ -18,6 +18,8 @@ use Rattle.step.specs.declared.state.Want.TheVariants as want
 use Rattle.step.specs.declared.state.Answer.{Answer}
 use Rattle.step.specs.Rooms.{Rooms, rooms, reads, ctx_of, count_of, leaving, Stands, Table, Loaded, most_serials}
 use Rattle.step.specs.Modes.{mode, WantIn}
+use Rattle.step.specs.declared.inference.Inference.{Inference}
+use Rattle.step.specs.Trees.{rule_number}
 use Rattle.step.specs.Contract.{Ready, RanAs, synthesizes}
 use Rattle.step.specs.Under.{Doing, kid_at}
 use Rattle.rule.specs.declared.next.Rest.{Rest}
@@ -46,6 +48,35 @@ Holds c own wide w rest.CaseLeft = (wide ≡ 1) × (own ≡ 0)
 Holds c own wide w (rest.CaseRight i b) = (b.0 < c) × (wide ≡ 2) × (own ≤ 1)
 Holds c own wide w (rest.CaseEnd i j S) = TypeIn c S × (wide ≡ 3)
 Holds c own wide w rest.Aborts = wide ≡ 1
+
+-- WHICH RULE A REST NAMES: its type lets it hold any number; this says that where it holds one, it is the number of one of the seventeen rules
+abbrev pub OfRule : ℕ → Type 0
+OfRule n = (i : Inference) × (n ≡ rule_number i)
+
+abbrev pub Names : Rest → Type 0
+Names (rest.By n m) = OfRule n
+Names (rest.Right n b) = OfRule n
+Names rest.Second = Unit {0}
+Names (rest.Both S) = Unit {0}
+Names rest.Part = Unit {0}
+Names (rest.Closes n i) = OfRule n
+Names (rest.Abstracts i S) = Unit {0}
+Names rest.Argument = Unit {0}
+Names (rest.Concludes b) = Unit {0}
+Names (rest.Instance i b) = Unit {0}
+Names rest.LetBody = Unit {0}
+Names (rest.LetEnd i j) = Unit {0}
+Names rest.CaseLeft = Unit {0}
+Names (rest.CaseRight i b) = Unit {0}
+Names (rest.CaseEnd i j S) = Unit {0}
+Names rest.Aborts = Unit {0}
+
+-- and the rest that a piece asks with
+abbrev pub NamesIn : Result Next Refusal → Type 0
+NamesIn (Ok (next.Ask q x v s)) = Names q
+NamesIn (Ok (next.Instead x E s)) = Unit {0}
+NamesIn (Ok (next.Done a)) = Unit {0}
+NamesIn (Err r) = Unit {0}
 
 module _ (l : List ℕ) (R₀ : Rooms) (f : Rule) where
   abbrev pub Γ₀ : Ctx
@@ -99,10 +130,12 @@ NextIs l R₀ k w st₀ j R (Err r) = RanAs l R₀ R k w st₀ (Err r)
 -- a term begun, in the rooms R; no rule has more than three children
 pub record Begins (l : List ℕ) (R R' : Rooms) (k : ℕ) (w : Want) (st : State) (n : Result Next Refusal) : Type 0 where
   pub begins : Ready l R k st → NextIs l R k w st 3 R' n
+  pub names : NamesIn n
 
--- the rule f gone on with, after its child answered T
+-- the rule f gone on with, after its child answered T. Of a number that is no rule's only `goes` speaks
 pub record Resumes (l : List ℕ) (R R' : Rooms) (f : Rule) (q : Rest) (T : Sort) (s : State) (n : Result Next Refusal) : Type 0 where
   pub goes : (R₀ : Rooms) → Resumed l R₀ f R q T s → NextIs l R₀ f.term.0 f.want f.start (length (after (term_record l f.term.0) q)) R' n
+  pub names : Names q → NamesIn n
 
 -- WHAT THE PIECES ASK: the table, the propositions, a place for the node, room for an entry
 abbrev pub Here : List ℕ → ℕ → Type 0

@@ -31,7 +31,8 @@ impl Rule {
     }
 }
 
-// What is left of a rule after a premise. (A rule's number is any number here, and no `Inference`: what is promised of a rest holds of all.)
+// What is left of a rule after a premise. (A rule's number is any number here, and no `Inference`: what `goes` of `Resumes` says
+// holds of all. That a piece asks with the number of a rule, `names` of `Begins` and `Resumes` says.)
 #[derive(Clone, Copy)]
 pub enum Rest {
     // One node, of what is answered: the rule's number, and how many premises it had.

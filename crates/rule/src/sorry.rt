@@ -7,7 +7,7 @@ ghost use Rattle.step.specs.declared.state.Want.TheVariants.{Check};
 ghost use Rattle.step.specs.Rooms.{count_of, rooms};
 ghost use Rattle.context.specs.Context.{most_entries};
 ghost use Rattle.step.specs.Rooms.{run_room};
-ghost use Rattle.rule.specs.Going.{Place, Begins};
+ghost use Rattle.rule.specs.Going.{Place, NamesIn, Begins};
 
 use super::next::Next;
 use numbers::refusal::Refusal;
@@ -28,9 +28,10 @@ pub fn check(
     requires place { Place tree.old st }
     requires goals_in_bounds { (8 * st.goals + 8 ≤ length goals.old) × (st.goals < largest) }
     requires run_room_in_bounds { (run_room ≤ length work.old) × (st.context ≤ most_entries) }
-    ensures { (l ps : List ℕ) → TypeIn (count_of l st) wanted → (term_record l k.0).kind ≡ 13 → Begins l
+    ensures begins { (l ps : List ℕ) → TypeIn (count_of l st) wanted → (term_record l k.0).kind ≡ 13 → Begins l
         (rooms tree.old goals.old ps work.old) (rooms tree.new goals.new ps work.new)
         k.0 (Check wanted) st result }
+    ensures names { NamesIn result }
 {
     let leaf = node(Inference::Sorry, k, wanted, Serial::NONE, Serial::NONE, 0);
     put_node(tree, st.records, leaf);

@@ -16,7 +16,7 @@ perform-begin-requires t c =
     record { ready = c.requires.ready; want_in = begun_among _ _ _ begun c.requires.want_in; begun = begun_again _ _ begun }
 
 pub perform-loop-next-init : goal.perform-loop-next-init
-perform-loop-next-init t c = (go_first _ _ _ _ _ c.requires.ready _ _ c.in_ok-next.ensures.done, c.in_ok-next.ensures.same_rooms)
+perform-loop-next-init t c = (go_first _ _ _ _ _ c.requires.ready _ _ c.in_ok-next.ensures.done, (c.in_ok-next.ensures.same_rooms, c.in_ok-next.ensures.done.names))
 
 pub perform-returns-in_err-next-clause-done : goal.perform-returns-in_err-next-clause-done
 perform-returns-in_err-next-clause-done t c =
@@ -59,19 +59,22 @@ perform-loop-next-smaller t c = go_less _ _ _ _ _ _ _ c.loop-next.invariant.0 _ 
 
 pub perform-loop-next-preserved : goal.perform-loop-next-preserved
 perform-loop-next-preserved t c =
-    let was = c.loop-next.invariant.1 in
+    let was = c.loop-next.invariant.1.0 in
     let now = c.in_ok-a-in-Ask.ensures.same_rooms in (
       go_again _ _ _ _ _ _ _ c.loop-next.invariant.0 _ _ _ _ c.in-Ask.is _ _ c.in_ok-a-in-Ask.ensures.done _ c.leave-a.ensures _ _ _ _ (c.in_ok-next-in-Ask.ensures _),
-      record {
-        tree = now.tree ∙ was.tree;
-        goals = now.goals ∙ was.goals;
-        props = now.props ∙ was.props;
-        work = now.work ∙ was.work;
-        tree_long = c.resume.auto.tree ∙ now.tree_long ∙ was.tree_long;
-        goals_long = now.goals_long ∙ was.goals_long;
-        props_long = c.resume.auto.props ∙ now.props_long ∙ was.props_long;
-        work_long = c.resume.auto.work ∙ now.work_long ∙ was.work_long;
-      },
+      (
+        record {
+          tree = now.tree ∙ was.tree;
+          goals = now.goals ∙ was.goals;
+          props = now.props ∙ was.props;
+          work = now.work ∙ was.work;
+          tree_long = c.resume.auto.tree ∙ now.tree_long ∙ was.tree_long;
+          goals_long = now.goals_long ∙ was.goals_long;
+          props_long = c.resume.auto.props ∙ now.props_long ∙ was.props_long;
+          work_long = c.resume.auto.work ∙ now.work_long ∙ was.work_long;
+        },
+        (c.in_ok-next-in-Ask.ensures c.run.new.lent.goals.now).names (rw c.in-Ask.is at c.loop-next.invariant.1.1),
+      ),
     )
 
 pub run-synthesize-requires : goal.run-synthesize-requires

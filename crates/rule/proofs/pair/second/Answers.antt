@@ -5,4 +5,4 @@ use native.Mathlib.Omega.{arith}
 use Rattle.rule.proofs.pair.second.Goals as goal
 
 pub returns : goal.returns
-returns c = λ R. record { goes = λ R₀ a. asking 1 (λ r. r.child2) _ c.term_record-r.ensures _ (refl) (pairing_second a) (omega arith) }
+returns c = λ R. record { goes = λ R₀ a. asking 1 (λ r. r.child2) _ c.term_record-r.ensures _ (refl) (pairing_second a) (omega arith); names = λ n. tt }
